@@ -1,0 +1,428 @@
+-- A run over a tree's yield makes the tree's rows: each piece takes its state to the state after it and puts the piece's rows, whatever follows.
+use mathlib.Core.Path.{_≡_, refl, sym, _∙_}
+use mathlib.Core.Bool.{cond}
+use mathlib.Core.List.{List, [], _∷_, _++_, map, flatMap, reverseAux, append-assoc}
+use Prim.Native.Nat.{ℕ, zero, suc, _+_, _≤_, _<_}
+use native.Mathlib.Nat.{add-suc, suc-add, add-zero, zero-add}
+use native.Mathlib.Numerals.{add-one}
+use native.Mathlib.Omega.{arith}
+use lib.Dec.{ltb}
+use lib.ListN.{length, replicate, length-map, length-append}
+use borrow.Author.Tests.{lt-ltb, le-ltb}
+use Rattle.star_lex.specs.Tokens.{Token, Each}
+use Rattle.star_grammar.specs.Tree.{IsValue, IsName, Inner, Packet, innerYield, packetYield, InnerWhole, PacketWhole, Loop, loopYield, LoopWhole, Entry, item, looped, entryYield, EntryWhole, Frame, frameYield, FrameWhole, Member, own, framed, memberYield, MemberWhole, blockYield, File, fileYield, FileWhole, frameEnd, loopStart, stop}
+use Rattle.star_grammar.specs.Tables.{Rows, noRows, pass, openLoop, putSet, putName, putPacket, putValue, fold, next, putValues, putInner, putPacketTree, putNames, putDeeper, putStops, putLoop, putEntry, putFrame, putMember, putBlock, rowsOf}
+use Rattle.star_grammar.specs.Machine.{Sort, sortOf, Where, inBlock, inFrame, setOf, Level, parentOf, start, within, named, header, body, go, between, filled, fill, valueAt, begin, headerStep, noValue, noValueAt, bodyStep, startStep, namedStep, step, good, endBetween, endBody, endRun, run}
+use Rattle.star_grammar.proofs.Counts.{Counts, map-counts}
+use Rattle.star_grammar.proofs.Sorts.{sort-block, sort-frame, sort-name, sort-value, sort-frame-end, sort-loop, sort-stop, run-sort, run-go, run-alike}
+
+-- a level of so many names, the first of this row
+abbrev pub level : (names first packet : ℕ) → Level
+level names first packet = record { names = names; first = first; packet = packet }
+
+-- before a packet begins, the number of the one before is not read
+any-packet-step : (limit : ℕ) (w : Where) (outer : List Level) (n first k k′ : ℕ) (ls : List ℕ) (s : Sort) (r : Rows)
+    → step limit (body w outer (level n first k) ls 0) s r ≡ step limit (body w outer (level n first k′) ls 0) s r
+unfolding step bodyStep noValueAt noValue valueAt
+any-packet-step limit w outer n first k k′ ls Sort.value r = refl
+any-packet-step limit w outer n first k k′ ls Sort.global r = refl
+any-packet-step limit w [] n first k k′ ls Sort.block r = refl
+any-packet-step limit w [] n first k k′ ls Sort.frame r = refl
+any-packet-step limit w [] n first k k′ ls Sort.frameEnd r = refl
+any-packet-step limit w [] n first k k′ ls Sort.loop r = refl
+any-packet-step limit w [] n first k k′ ls Sort.stop r = refl
+any-packet-step limit w [] n first k k′ ls Sort.name r = refl
+any-packet-step limit w (o ∷ outer) n first k k′ ls Sort.block r = refl
+any-packet-step limit w (o ∷ outer) n first k k′ ls Sort.frame r = refl
+any-packet-step limit w (o ∷ outer) n first k k′ ls Sort.frameEnd r = refl
+any-packet-step limit w (o ∷ outer) n first k k′ ls Sort.loop r = refl
+any-packet-step limit w (o ∷ outer) n first k k′ ls Sort.stop r = refl
+any-packet-step limit w (o ∷ outer) n first k k′ ls Sort.name r = refl
+
+any-packet : (limit : ℕ) (w : Where) (outer : List Level) (n first k k′ : ℕ) (ls : List ℕ) (ts : List Token) (r : Rows)
+    → run limit (body w outer (level n first k) ls 0) ts r ≡ run limit (body w outer (level n first k′) ls 0) ts r
+unfolding run endRun endBody
+any-packet limit w outer n first k k′ ls [] r = refl
+any-packet limit w outer n first k k′ ls (t ∷ ts) r =
+    run-alike limit (body w outer (level n first k) ls 0) (body w outer (level n first k′) ls 0) t ts r
+    (any-packet-step limit w outer n first k k′ ls (sortOf (t .kind)) r)
+
+-- the rest of a packet's values
+pub fill-values : (limit : ℕ) (w : Where) (outer : List Level) (n first k : ℕ) (ls : List ℕ) (f : ℕ) (vs rest : List Token) (r : Rows)
+    → suc f + length vs ≡ n → Each IsValue vs
+    → run limit (cond (ltb (suc f) n) (body w outer (level n first k) ls (suc f)) (filled w outer (level n first k) ls)) (vs ++ rest) r
+    ≡ run limit (filled w outer (level n first k) ls) rest (putValues (suc (first + f)) k vs r)
+unfolding putValues step bodyStep valueAt fill
+fill-values limit w outer n first k ls f [] rest r e h = rw (le-ltb (suc f) n (omega arith))
+fill-values limit w outer n first k ls f (v ∷ vs) rest r e h =
+    rw (lt-ltb (suc f) n (omega (arith, e)), ← add-suc first f)
+    (run-sort limit (body w outer (level n first k) ls (suc f)) v (vs ++ rest) r Sort.value (sort-value v (h .0))
+    ∙ fill-values limit w outer n first k ls (suc f) vs rest (putValue (first + suc f) k r) (omega (arith, e)) (h .1))
+
+-- loops are not counted by what stands inside one
+values-loops : (name packet : ℕ) (vs : List Token) (r : Rows) → putValues name packet vs r .loops ≡ r .loops
+unfolding putValues putValue
+values-loops name packet [] r = refl
+values-loops name packet (v ∷ vs) r = values-loops (suc name) packet vs (putValue name packet r)
+
+fold-loops : {A : Type 0} (put : A → Rows → Rows) → ((x : A) (r : Rows) → put x r .loops ≡ r .loops)
+    → (xs : List A) (r : Rows) → fold put xs r .loops ≡ r .loops
+fold-loops put h [] r = refl
+fold-loops put h (x ∷ xs) r = fold-loops put h xs (put x r) ∙ h x r
+
+inner-loops : (ls : List ℕ) (loop level first parent : ℕ) (i : Inner ls) (r : Rows)
+    → putInner ls loop level first parent i r .loops ≡ r .loops
+unfolding putInner pass putPacket
+inner-loops [] loop level first parent i r = refl
+inner-loops (m ∷ ls) loop level first parent ps r =
+    fold-loops _ (λ p u. inner-loops ls loop (suc level) (first + m) (next (u .packets)) (p .1) (putValues first (next (u .packets)) (p .0) (putPacket loop level parent u))
+    ∙ values-loops first (next (u .packets)) (p .0) (putPacket loop level parent u)) ps r
+
+packet-loops : (m : ℕ) (ls : List ℕ) (loop level first parent : ℕ) (p : Packet ls) (r : Rows)
+    → putPacketTree m ls loop level first parent p r .loops ≡ r .loops
+unfolding putPacketTree putPacket
+packet-loops m ls loop level first parent p r =
+    inner-loops ls loop (suc level) (first + m) (next (r .packets)) (p .1) (putValues first (next (r .packets)) (p .0) (putPacket loop level parent r))
+    ∙ values-loops first (next (r .packets)) (p .0) (putPacket loop level parent r)
+
+-- what stands below a packet, after its values
+abbrev pub InnerRuns : (limit : ℕ) → List ℕ → Type 0
+InnerRuns limit ls =
+    (w : Where) (outer : List Level) (n first k : ℕ) (i : Inner ls) (rest : List Token) (r : Rows) (loop : ℕ) → Counts ls → InnerWhole ls i
+    → r .loops ≡ loop
+    → run limit (filled w outer (level n first k) ls) (innerYield ls i ++ rest) r
+    ≡ run limit (body w outer (level n first k) ls 0) rest (putInner ls loop (suc (suc (length outer))) (first + n) k i r)
+
+module _ (limit : ℕ) (w : Where) (ls : List ℕ) (below : InnerRuns limit ls) (counts : Counts ls) (outer : List Level) (n first k loop : ℕ) (some : 1 ≤ n) where
+  packet-run : (vs : List Token) (i : Inner ls) (rest : List Token) (r : Rows) → r .loops ≡ loop → PacketWhole n ls (vs, i)
+      → run limit (body w outer (level n first k) ls 0) (vs ++ innerYield ls i ++ rest) r
+      ≡ run limit (body w outer (level n first k) ls 0) rest (putPacketTree n ls loop (suc (length outer)) first (parentOf outer) (vs, i) r)
+  unfolding step bodyStep valueAt fill putPacketTree putPacket putValues putValue
+  packet-run [] i rest r e h = absurd (omega (arith, h .0))
+  packet-run (v ∷ vs) i rest r e h =
+      let q : ℕ = next (r .packets) in
+      let r₁ : Rows = putPacket (r .loops) (suc (length outer)) (parentOf outer) r in
+      let r₂ : Rows = putValue (first + 0) q r₁ in
+      let vals : Rows = putValues (suc (first + 0)) q vs r₂ in
+      rw (append-assoc vs (innerYield ls i) rest, ← e)
+      (rw (add-zero first) at
+      (run-sort limit (body w outer (level n first k) ls 0) v (vs ++ (innerYield ls i ++ rest)) r Sort.value (sort-value v (h .1 .0))
+      ∙ fill-values limit w outer n first q ls 0 vs (innerYield ls i ++ rest) r₂ (omega (arith, h .0)) (h .1 .1)
+      ∙ below w outer n first q i rest vals (r .loops) counts (h .2) (values-loops (suc (first + 0)) q vs r₂)
+      ∙ any-packet limit w outer n first q k ls rest (putInner ls (r .loops) (suc (suc (length outer))) (first + n) q i vals)))
+
+  pub packets-run : (ps : List (Packet ls)) (rest : List Token) (r : Rows) → r .loops ≡ loop → Each (PacketWhole n ls) ps
+      → run limit (body w outer (level n first k) ls 0) (flatMap (packetYield ls) ps ++ rest) r
+      ≡ run limit (body w outer (level n first k) ls 0) rest (fold (putPacketTree n ls loop (suc (length outer)) first (parentOf outer)) ps r)
+  unfolding flatMap
+  packets-run [] rest r e h = refl
+  packets-run (p ∷ ps) rest r e h =
+      rw (append-assoc (packetYield ls p) (flatMap (packetYield ls) ps) rest)
+      (packet-run (p .0) (p .1) (flatMap (packetYield ls) ps ++ rest) r e (h .0)
+      ∙ packets-run ps rest (putPacketTree n ls loop (suc (length outer)) first (parentOf outer) p r)
+      (packet-loops n ls loop (suc (length outer)) first (parentOf outer) p r ∙ e) (h .1))
+
+pub inner-run : (limit : ℕ) (ls : List ℕ) → InnerRuns limit ls
+unfolding filled innerYield InnerWhole putInner putPacketTree parentOf step bodyStep noValueAt noValue
+inner-run limit [] w outer n first k i rest r loop c h e = refl
+inner-run limit (m ∷ ls) w outer n first k ps rest r loop c h e =
+    rw (append-assoc (flatMap (packetYield ls) ps) (stop ∷ []) rest)
+    (packets-run limit w ls (inner-run limit ls) (c .1) (level n first k ∷ outer) m (first + n) 0 loop (c .0) ps (stop ∷ rest) r e h
+    ∙ run-sort limit (body w (level n first k ∷ outer) (level m (first + n) 0) ls 0) stop rest
+    (fold (putPacketTree m ls loop (suc (suc (length outer))) (first + n) k) ps r) Sort.stop sort-stop)
+
+-- the names of a level
+names-loops : (set loop level : ℕ) (ns : List Token) (r : Rows) → putNames set loop level ns r .loops ≡ r .loops
+unfolding putNames putName
+names-loops set loop level [] r = refl
+names-loops set loop level (x ∷ ns) r = names-loops set loop level ns (putName set loop level r)
+
+pub names-run : (limit : ℕ) (w : Where) (first : ℕ) (before : List ℕ) (n : ℕ) (ns rest : List Token) (r : Rows) → Each IsName ns
+    → run limit (header w first before n 0) (ns ++ rest) r
+    ≡ run limit (header w first before (n + length ns) 0) rest (putNames (setOf w) (r .loops) (suc (length before)) ns r)
+unfolding step headerStep putNames putName
+names-run limit w first before n [] rest r h = rw (add-zero n)
+names-run limit w first before n (x ∷ ns) rest r h =
+    run-sort limit (header w first before n 0) x (ns ++ rest) r Sort.name (sort-name x (h .0))
+    ∙ names-run limit w first before (suc n) ns rest (putName (setOf w) (r .loops) (suc (length before)) r) (h .1)
+    ∙ rw (suc-add n (length ns), add-suc n (length ns))
+
+-- the counts of a header's levels: the current one after deeper ones, and those before it
+abbrev pub lastOf : ℕ → List ℕ → ℕ
+lastOf n [] = n
+lastOf n (m ∷ ms) = lastOf m ms
+
+abbrev pub beforeOf : List ℕ → ℕ → List ℕ → List ℕ
+beforeOf before n [] = before
+beforeOf before n (m ∷ ms) = beforeOf (n ∷ before) m ms
+
+pub last-some : (n : ℕ) (ms : List ℕ) → 1 ≤ n → Counts ms → 1 ≤ lastOf n ms
+last-some n [] h c = h
+last-some n (m ∷ ms) h c = last-some m ms (c .0) (c .1)
+
+pub before-counts : (before : List ℕ) (n : ℕ) (ms : List ℕ) → Counts before → 1 ≤ n → Counts ms → Counts (beforeOf before n ms)
+before-counts before n [] cb h c = cb
+before-counts before n (m ∷ ms) cb h c = before-counts (n ∷ before) m ms (h, cb) (c .0) (c .1)
+
+pub before-length : (before : List ℕ) (n : ℕ) (ms : List ℕ) → length (beforeOf before n ms) ≡ length before + length ms
+before-length before n [] = sym (add-zero (length before))
+before-length before n (m ∷ ms) = before-length (n ∷ before) m ms ∙ omega arith
+
+pub before-reverse : (before : List ℕ) (n : ℕ) (ms : List ℕ) → reverseAux (beforeOf before n ms) (lastOf n ms ∷ []) ≡ reverseAux before (n ∷ ms)
+before-reverse before n [] = refl
+before-reverse before n (m ∷ ms) = before-reverse (n ∷ before) m ms
+
+step-deeper : (limit : ℕ) (w : Where) (first : ℕ) (before : List ℕ) (n : ℕ) (r : Rows) → 1 ≤ n → suc (length before) < limit
+    → step limit (header w first before n 0) Sort.loop r ≡ go (header w first (n ∷ before) 0 0) (pass r)
+unfolding step headerStep
+step-deeper limit w first before n r h l = rw (lt-ltb 0 n h, lt-ltb (suc (length before)) limit l)
+
+-- the deeper levels of a header
+pub deeper-run : (limit : ℕ) (w : Where) (first : ℕ) (before : List ℕ) (n loop : ℕ) (nss : List (List Token)) (rest : List Token) (r : Rows)
+    → 1 ≤ n → suc (length before) + length nss ≤ limit → Each (λ ns. 1 ≤ length ns) nss → Each (Each IsName) nss → r .loops ≡ loop
+    → run limit (header w first before n 0) (flatMap (λ ns. loopStart ∷ ns) nss ++ rest) r
+    ≡ run limit (header w first (beforeOf before n (map length nss)) (lastOf n (map length nss)) 0) rest
+    (putDeeper (setOf w) loop (suc (suc (length before))) nss r)
+unfolding flatMap putDeeper pass
+deeper-run limit w first before n loop [] rest r h l s a e = refl
+deeper-run limit w first before n loop (ns ∷ nss) rest r h l s a e =
+    rw (append-assoc ns (flatMap (λ ns. loopStart ∷ ns) nss) rest, ← e)
+    (run-go limit (header w first before n 0) loopStart (ns ++ (flatMap (λ ns. loopStart ∷ ns) nss ++ rest)) r Sort.loop
+    (header w first (n ∷ before) 0 0) (pass r) sort-loop (step-deeper limit w first before n r h (omega (arith, l)))
+    ∙ (rw (zero-add (length ns)) at
+    (names-run limit w first (n ∷ before) 0 ns (flatMap (λ ns. loopStart ∷ ns) nss ++ rest) (pass r) (a .0)))
+    ∙ deeper-run limit w first (n ∷ before) (length ns) (r .loops) nss rest
+    (putNames (setOf w) (r .loops) (suc (suc (length before))) ns (pass r)) (s .0) (omega (arith, l)) (s .1) (a .1)
+    (names-loops (setOf w) (r .loops) (suc (suc (length before))) ns (pass r)))
+
+-- header stops
+pub stops-run : (limit : ℕ) (w : Where) (first : ℕ) (before : List ℕ) (n s k : ℕ) (rest : List Token) (r : Rows) → 1 ≤ n → s + k ≤ length before
+    → run limit (header w first before n s) (replicate k stop ++ rest) r ≡ run limit (header w first before n (s + k)) rest (putStops k r)
+unfolding putStops step headerStep
+stops-run limit w first before n s zero rest r h l = rw (add-zero s)
+stops-run limit w first before n s (suc k) rest r h l =
+    run-go limit (header w first before n s) stop (replicate k stop ++ rest) r Sort.stop (header w first before n (suc s)) (pass r) sort-stop
+    (rw (lt-ltb 0 n h, lt-ltb s (length before) (omega arith)))
+    ∙ stops-run limit w first before n (suc s) k rest (pass r) h (omega arith)
+    ∙ rw (suc-add s k, add-suc s k)
+
+-- the first value of a loop begins level 1
+step-begin : (limit : ℕ) (w : Where) (first : ℕ) (before : List ℕ) (n s m : ℕ) (ls : List ℕ) (r : Rows) → 1 ≤ n
+    → reverseAux before (n ∷ []) ≡ m ∷ ls
+    → step limit (header w first before n s) Sort.value r ≡ step limit (body w [] (level m first 0) ls 0) Sort.value r
+unfolding step headerStep begin bodyStep
+step-begin limit w first before n s m ls r h e = rw (lt-ltb 0 n h, e)
+
+pub begin-values : (limit : ℕ) (w : Where) (first : ℕ) (before : List ℕ) (n s m : ℕ) (ls : List ℕ) (vs rest : List Token) (r : Rows) → 1 ≤ n
+    → reverseAux before (n ∷ []) ≡ m ∷ ls → 1 ≤ length vs → Each IsValue vs
+    → run limit (header w first before n s) (vs ++ rest) r ≡ run limit (body w [] (level m first 0) ls 0) (vs ++ rest) r
+begin-values limit w first before n s m ls [] rest r h e l a = absurd (omega (arith, l))
+begin-values limit w first before n s m ls (v ∷ vs) rest r h e l a =
+    run-alike limit (header w first before n s) (body w [] (level m first 0) ls 0) v (vs ++ rest) r
+    (rw (sort-value v (a .0)) (step-begin limit w first before n s m ls r h e))
+
+begin-packets : (limit : ℕ) (w : Where) (first : ℕ) (before : List ℕ) (n s m : ℕ) (ls : List ℕ) (ps : List (Packet ls)) (rest : List Token) (r : Rows)
+    → 1 ≤ n → reverseAux before (n ∷ []) ≡ m ∷ ls → 1 ≤ m → 1 ≤ length ps → Each (PacketWhole m ls) ps
+    → run limit (header w first before n s) (flatMap (packetYield ls) ps ++ rest) r
+    ≡ run limit (body w [] (level m first 0) ls 0) (flatMap (packetYield ls) ps ++ rest) r
+unfolding flatMap
+begin-packets limit w first before n s m ls [] rest r h e hm l a = absurd (omega (arith, l))
+begin-packets limit w first before n s m ls (p ∷ ps) rest r h e hm l a =
+    rw (
+      append-assoc (packetYield ls p) (flatMap (packetYield ls) ps) rest,
+      append-assoc (p .0) (innerYield ls (p .1)) (flatMap (packetYield ls) ps ++ rest),
+    )
+    (begin-values limit w first before n s m ls (p .0) (innerYield ls (p .1) ++ (flatMap (packetYield ls) ps ++ rest)) r h e (omega (arith, a .0 .0)) (a .0 .1))
+
+-- what comes next is no value
+abbrev pub NoValue : List Token → Type 0
+NoValue [] = Unit {0}
+NoValue (t ∷ ts) = sortOf (t .kind) ≡ Sort.value → ⊥
+
+pub not-value : (s k : Sort) → s ≡ k → (k ≡ Sort.value → ⊥) → s ≡ Sort.value → ⊥
+not-value s k e h q = h (cc)
+
+-- after a loop's packets, where no value comes: as between the entries of the set
+after-loop-step : (limit : ℕ) (w : Where) (l : Level) (ls : List ℕ) (s : Sort) (r : Rows) → (s ≡ Sort.value → ⊥)
+    → step limit (body w [] l ls 0) s r ≡ step limit (within w) s r
+unfolding step bodyStep noValueAt noValue between
+after-loop-step limit w l ls Sort.block r h = refl
+after-loop-step limit w l ls Sort.frame r h = refl
+after-loop-step limit w l ls Sort.frameEnd r h = refl
+after-loop-step limit w l ls Sort.loop r h = refl
+after-loop-step limit w l ls Sort.stop r h = refl
+after-loop-step limit w l ls Sort.name r h = refl
+after-loop-step limit w l ls Sort.value r h = absurd (h refl)
+after-loop-step limit (inBlock b) l ls Sort.global r h = refl
+after-loop-step limit (inFrame b s) l ls Sort.global r h = refl
+
+pub after-loop : (limit : ℕ) (w : Where) (l : Level) (ls : List ℕ) (ts : List Token) (r : Rows) → NoValue ts
+    → run limit (body w [] l ls 0) ts r ≡ run limit (within w) ts r
+unfolding run endRun endBody
+after-loop limit w l ls [] r h = refl
+after-loop limit w l ls (t ∷ ts) r h =
+    run-alike limit (body w [] l ls 0) (within w) t ts r (after-loop-step limit w l ls (sortOf (t .kind)) r h)
+
+step-loop : (limit : ℕ) (w : Where) (r : Rows)
+    → step limit (within w) Sort.loop r ≡ go (header w (next (r .names)) [] 0 0) (openLoop r)
+unfolding step between
+step-loop limit (inBlock s) r = refl
+step-loop limit (inFrame b s) r = refl
+
+step-item : (limit : ℕ) (w : Where) (r : Rows) → step limit (within w) Sort.name r ≡ go (named w) (putName (setOf w) 0 0 r)
+unfolding step between setOf
+step-item limit (inBlock s) r = refl
+step-item limit (inFrame b s) r = refl
+
+stops-loops : (k : ℕ) (r : Rows) → putStops k r .loops ≡ r .loops
+unfolding putStops pass
+stops-loops zero r = refl
+stops-loops (suc k) r = stops-loops k (pass r)
+
+deeper-loops : (set loop level : ℕ) (nss : List (List Token)) (r : Rows) → putDeeper set loop level nss r .loops ≡ r .loops
+unfolding putDeeper pass
+deeper-loops set loop level [] r = refl
+deeper-loops set loop level (ns ∷ nss) r =
+    deeper-loops set loop (suc level) nss (putNames set loop level ns (pass r)) ∙ names-loops set loop level ns (pass r)
+
+loop-run : (limit : ℕ) (w : Where) (l : Loop) (rest : List Token) (r : Rows) → LoopWhole limit l → NoValue rest
+    → run limit (within w) (loopYield l ++ rest) r ≡ run limit (within w) rest (putLoop (setOf w) l r)
+unfolding loopYield putLoop openLoop parentOf
+loop-run limit w l rest r h nv =
+    let n : ℕ = length (l .names) in
+    let ms : List ℕ = map length (l .deeper) in
+    let first : ℕ = next (r .names) in
+    let loop : ℕ = suc (r .loops) in
+    let set : ℕ = setOf w in
+    let packets : List Token = flatMap (packetYield ms) (l .packets) in
+    let stops : List Token = replicate (l .stops) stop in
+    let deeper : List Token = flatMap (λ ns. loopStart ∷ ns) (l .deeper) in
+    let r₁ : Rows = putNames set loop 1 (l .names) (openLoop r) in
+    let r₂ : Rows = putDeeper set loop 2 (l .deeper) r₁ in
+    let r₃ : Rows = putStops (l .stops) r₂ in
+    let e₁ : r₁ .loops ≡ loop = names-loops set loop 1 (l .names) (openLoop r) in
+    let e₃ : r₃ .loops ≡ loop = stops-loops (l .stops) r₂ ∙ deeper-loops set loop 2 (l .deeper) r₁ ∙ e₁ in
+    let c : Counts ms = map-counts (l .deeper) (h .some-names) in
+    rw (append-assoc (l .names) (deeper ++ (stops ++ packets)) rest, append-assoc deeper (stops ++ packets) rest, append-assoc stops packets rest)
+    (run-go limit (within w) loopStart (l .names ++ (deeper ++ (stops ++ (packets ++ rest)))) r Sort.loop (header w first [] 0 0) (openLoop r)
+    sort-loop (step-loop limit w r)
+    ∙ (rw (zero-add n) at (names-run limit w first [] 0 (l .names) (deeper ++ (stops ++ (packets ++ rest))) (openLoop r) (h .are-names)))
+    ∙ deeper-run limit w first [] n loop (l .deeper) (stops ++ (packets ++ rest)) r₁ (h .some-name) (omega (arith, h .levels)) (h .some-names) (h .are-deeper) e₁
+    ∙ (rw (zero-add (l .stops)) at (stops-run limit w first (beforeOf [] n ms) (lastOf n ms) 0 (l .stops) (packets ++ rest) r₂
+    (last-some n ms (h .some-name) c) (simp (before-length, length-map) (omega (arith, h .stops-fit)))))
+    ∙ begin-packets limit w first (beforeOf [] n ms) (lastOf n ms) (l .stops) n ms (l .packets) rest r₃ (last-some n ms (h .some-name) c)
+    (before-reverse [] n ms) (h .some-name) (h .some-packet) (h .whole)
+    ∙ packets-run limit w ms (inner-run limit ms) c [] n first 0 loop (h .some-name) (l .packets) rest r₃ e₃ (h .whole)
+    ∙ after-loop limit w (level n first 0) ms rest (fold (putPacketTree n ms loop 1 first 0) (l .packets) r₃) nv)
+
+entry-run : (limit : ℕ) (w : Where) (e : Entry) (rest : List Token) (r : Rows) → EntryWhole limit e → NoValue rest
+    → run limit (within w) (entryYield e ++ rest) r ≡ run limit (within w) rest (putEntry (setOf w) e r)
+unfolding entryYield EntryWhole putEntry putName step namedStep
+entry-run limit w (item n v) rest r h nv =
+    run-go limit (within w) n (v ∷ rest) r Sort.name (named w) (putName (setOf w) 0 0 r) (sort-name n (h .0)) (step-item limit w r)
+    ∙ run-sort limit (named w) v rest (putName (setOf w) 0 0 r) Sort.value (sort-value v (h .1))
+    ∙ rw (length-append (r .names), add-one (length (r .names)))
+entry-run limit w (looped l) rest r h nv = loop-run limit w l rest r h nv
+
+name≢value : Sort.name ≡ Sort.value → ⊥
+name≢value e = let z : _≡_ {A = ℕ} 0 1 = cc in omega arith
+
+loop≢value : Sort.loop ≡ Sort.value → ⊥
+loop≢value e = let z : _≡_ {A = ℕ} 0 1 = cc in omega arith
+
+frame≢value : Sort.frame ≡ Sort.value → ⊥
+frame≢value e = let z : _≡_ {A = ℕ} 0 1 = cc in omega arith
+
+pub frameEnd≢value : Sort.frameEnd ≡ Sort.value → ⊥
+frameEnd≢value e = let z : _≡_ {A = ℕ} 0 1 = cc in omega arith
+
+block≢value : Sort.block ≡ Sort.value → ⊥
+block≢value e = let z : _≡_ {A = ℕ} 0 1 = cc in omega arith
+
+-- no piece between values begins with one
+entry-no-value : (limit : ℕ) (e : Entry) (rest : List Token) → EntryWhole limit e → NoValue (entryYield e ++ rest)
+unfolding entryYield EntryWhole loopYield
+entry-no-value limit (item n v) rest h = not-value _ _ (sort-name n (h .0)) name≢value
+entry-no-value limit (looped l) rest h = not-value _ _ sort-loop loop≢value
+
+pub entries-no-value : (limit : ℕ) (es : List Entry) (rest : List Token) → Each (EntryWhole limit) es → NoValue rest
+    → NoValue (flatMap entryYield es ++ rest)
+unfolding flatMap
+entries-no-value limit [] rest h nv = nv
+entries-no-value limit (e ∷ es) rest h nv =
+    rw (append-assoc (entryYield e) (flatMap entryYield es) rest) (entry-no-value limit e (flatMap entryYield es ++ rest) (h .0))
+
+pub entries-run : (limit : ℕ) (w : Where) (es : List Entry) (rest : List Token) (r : Rows) → Each (EntryWhole limit) es → NoValue rest
+    → run limit (within w) (flatMap entryYield es ++ rest) r ≡ run limit (within w) rest (fold (putEntry (setOf w)) es r)
+unfolding flatMap
+entries-run limit w [] rest r h nv = refl
+entries-run limit w (e ∷ es) rest r h nv =
+    rw (append-assoc (entryYield e) (flatMap entryYield es) rest)
+    (entry-run limit w e (flatMap entryYield es ++ rest) r (h .0) (entries-no-value limit es rest (h .1) nv)
+    ∙ entries-run limit w es rest (putEntry (setOf w) e r) (h .1) nv)
+
+frame-run : (limit b : ℕ) (f : Frame) (rest : List Token) (r : Rows) → FrameWhole limit f
+    → run limit (within (inBlock b)) (frameYield f ++ rest) r ≡ run limit (within (inBlock b)) rest (putFrame b f r)
+unfolding frameYield putFrame step between setOf
+frame-run limit b f rest r h =
+    let s : ℕ = next (r .sets) in
+    rw (append-assoc (flatMap entryYield (f .entries)) (frameEnd ∷ []) rest)
+    (run-sort limit (within (inBlock b)) (f .heading) (flatMap entryYield (f .entries) ++ (frameEnd ∷ rest)) r Sort.frame (sort-frame (f .heading) (h .heading))
+    ∙ entries-run limit (inFrame b s) (f .entries) (frameEnd ∷ rest) (putSet 2 b r) (h .entries) (not-value _ _ sort-frame-end frameEnd≢value)
+    ∙ run-sort limit (within (inFrame b s)) frameEnd rest (fold (putEntry s) (f .entries) (putSet 2 b r)) Sort.frameEnd sort-frame-end)
+
+member-run : (limit b : ℕ) (m : Member) (rest : List Token) (r : Rows) → MemberWhole limit m → NoValue rest
+    → run limit (within (inBlock b)) (memberYield m ++ rest) r ≡ run limit (within (inBlock b)) rest (putMember b m r)
+unfolding memberYield MemberWhole putMember setOf
+member-run limit b (own e) rest r h nv = entry-run limit (inBlock b) e rest r h nv
+member-run limit b (framed f) rest r h nv = frame-run limit b f rest r h
+
+member-no-value : (limit : ℕ) (m : Member) (rest : List Token) → MemberWhole limit m → NoValue (memberYield m ++ rest)
+unfolding memberYield MemberWhole frameYield
+member-no-value limit (own e) rest h = entry-no-value limit e rest h
+member-no-value limit (framed f) rest h = not-value _ _ (sort-frame (f .heading) (h .heading)) frame≢value
+
+pub members-no-value : (limit : ℕ) (ms : List Member) (rest : List Token) → Each (MemberWhole limit) ms → NoValue rest
+    → NoValue (flatMap memberYield ms ++ rest)
+unfolding flatMap
+members-no-value limit [] rest h nv = nv
+members-no-value limit (m ∷ ms) rest h nv =
+    rw (append-assoc (memberYield m) (flatMap memberYield ms) rest) (member-no-value limit m (flatMap memberYield ms ++ rest) (h .0))
+
+pub members-run : (limit b : ℕ) (ms : List Member) (rest : List Token) (r : Rows) → Each (MemberWhole limit) ms → NoValue rest
+    → run limit (within (inBlock b)) (flatMap memberYield ms ++ rest) r ≡ run limit (within (inBlock b)) rest (fold (putMember b) ms r)
+unfolding flatMap
+members-run limit b [] rest r h nv = refl
+members-run limit b (m ∷ ms) rest r h nv =
+    rw (append-assoc (memberYield m) (flatMap memberYield ms) rest)
+    (member-run limit b m (flatMap memberYield ms ++ rest) r (h .0) (members-no-value limit ms rest (h .1) nv)
+    ∙ members-run limit b ms rest (putMember b m r) (h .1) nv)
+
+pub file-no-value : (limit : ℕ) (f : File) → FileWhole limit f → NoValue (fileYield f)
+unfolding flatMap blockYield
+file-no-value limit [] h = tt
+file-no-value limit (b ∷ f) h = not-value _ _ (sort-block (b .heading) (h .0 .heading)) block≢value
+
+-- the blocks of a file, after one
+pub blocks-run : (limit s : ℕ) (f : File) (r : Rows) → FileWhole limit f
+    → run limit (within (inBlock s)) (fileYield f) r ≡ good (fold putBlock f r)
+unfolding flatMap blockYield putBlock step between run endRun endBetween
+blocks-run limit s [] r h = refl
+blocks-run limit s (b ∷ f) r h =
+    run-sort limit (within (inBlock s)) (b .heading) (flatMap memberYield (b .members) ++ fileYield f) r Sort.block (sort-block (b .heading) (h .0 .heading))
+    ∙ members-run limit (next (r .sets)) (b .members) (fileYield f) (putSet 1 0 r) (h .0 .members) (file-no-value limit f (h .1))
+    ∙ blocks-run limit (next (r .sets)) f (putBlock b r) (h .1)
+
+-- the blocks of a file, from its start
+pub file-run : (limit : ℕ) (f : File) (r : Rows) → FileWhole limit f → run limit start (fileYield f) r ≡ good (fold putBlock f r)
+unfolding flatMap blockYield run endRun step startStep between
+file-run limit [] r h = refl
+file-run limit (b ∷ f) r h =
+    run-alike limit start (within (inBlock 0)) (b .heading) (flatMap memberYield (b .members) ++ fileYield f) r
+    (rw (sort-block (b .heading) (h .0 .heading)))
+    ∙ blocks-run limit 0 (b ∷ f) r h
+
+-- a run over the tokens of a whole tree makes the tree's rows
+pub complete : (limit : ℕ) (f : File) → FileWhole limit f → run limit start (fileYield f) noRows ≡ good (rowsOf f)
+unfolding rowsOf
+complete limit f h = file-run limit f noRows h

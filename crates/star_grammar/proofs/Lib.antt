@@ -1,0 +1,9 @@
+pub mod Counts
+pub mod Sorts
+pub mod Sane
+pub mod Complete
+pub mod Unambiguous
+pub mod Sound
+pub mod Accepts
+pub mod Alive
+pub mod StepRest

@@ -1,0 +1,5 @@
+pub mod Tree
+pub mod Tables
+pub mod Machine
+pub mod Rest
+pub mod Reading

@@ -1,0 +1,51 @@
+-- The reading of a row of tokens: paper 01, "Grammar over tokens".
+use mathlib.Core.Path.{_≡_}
+use mathlib.Core.List.{List, [], _∷_, _++_, map, flatMap, List·Memᴰ}
+use Prim.Native.Nat.{ℕ}
+use Rattle.star_lex.specs.Tokens.{Token, Each}
+use Rattle.star_grammar.specs.Tree.{Loop, Entry, item, looped, Frame, Member, own, framed, Block, File, fileYield, FileWhole}
+
+-- no content stands twice in the list
+abbrev pub Distinct : List (List ℕ) → Type 0
+Distinct [] = Unit {0}
+Distinct (x ∷ xs) = (List·Memᴰ x xs → ⊥) × Distinct xs
+
+abbrev pub contents : List Token → List (List ℕ)
+contents ts = map (λ t. t .content) ts
+
+-- the names of an entry, in order
+unfoldable pub entryNames : Entry → List (List ℕ)
+entryNames (item n v) = n .content ∷ []
+entryNames (looped l) = contents (l .names) ++ flatMap contents (l .deeper)
+
+-- a block's own names: those of its frames are not counted
+unfoldable pub ownNames : Member → List (List ℕ)
+ownNames (own e) = entryNames e
+ownNames (framed f) = []
+
+unfoldable pub frameCodes : Member → List (List ℕ)
+frameCodes (own e) = []
+frameCodes (framed f) = f .heading .content ∷ []
+
+-- names are unique within a frame
+unfoldable pub FrameDistinct : Member → Type 0
+FrameDistinct (own e) = Unit {0}
+FrameDistinct (framed f) = Distinct (flatMap entryNames (f .entries))
+
+-- names are unique within a block, its frames not counted; frame codes are unique within a block
+pub record BlockDistinct (b : Block) : Type 0 where
+  pub names : Distinct (flatMap ownNames (b .members))
+  pub codes : Distinct (flatMap frameCodes (b .members))
+  pub frames : Each FrameDistinct (b .members)
+
+-- block codes are unique within the file
+pub record FileDistinct (f : File) : Type 0 where
+  pub blocks : Each BlockDistinct f
+  pub codes : Distinct (map (λ b. b .heading .content) f)
+
+-- a reading of a row of tokens: a tree by these rules whose tokens are all of them, with at most 8 levels
+pub record Reading (ts : List Token) : Type 0 where
+  pub tree : File
+  pub yield : fileYield tree ≡ ts
+  pub whole : FileWhole 8 tree
+  pub distinct : FileDistinct tree

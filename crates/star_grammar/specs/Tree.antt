@@ -1,0 +1,132 @@
+-- The grammar of paper 01, "Grammar over tokens", as trees and the tokens that they yield. No parser stands here.
+use mathlib.Core.Path.{_≡_}
+use mathlib.Core.List.{List, [], _∷_, _++_, map, flatMap}
+use Prim.Native.Nat.{ℕ, _≤_, _<_}
+use lib.ListN.{length, replicate}
+use Rattle.star_lex.specs.Tokens.{Token, Each, saveWord, loopWord, stopWord}
+
+-- the tokens `save_`, `loop_` and `stop_`
+unfoldable pub frameEnd : Token
+frameEnd = record { kind = 3; content = saveWord }
+
+unfoldable pub loopStart : Token
+loopStart = record { kind = 4; content = loopWord }
+
+unfoldable pub stop : Token
+stop = record { kind = 5; content = stopWord }
+
+-- values are kinds 7 to 11
+pub record IsValue (t : Token) : Type 0 where
+  pub low : 7 ≤ t .kind
+  pub high : t .kind ≤ 11
+
+pub record IsName (t : Token) : Type 0 where
+  pub kind6 : t .kind ≡ 6
+
+-- what a packet holds below its own values, where the deeper levels have these numbers of names
+abbrev pub Inner : List ℕ → Type 0
+Inner [] = Unit {0}
+Inner (m ∷ ls) = List (List Token × Inner ls)
+
+-- a packet: its level's values, and the deeper level's packets
+abbrev pub Packet : List ℕ → Type 0
+Packet ls = List Token × Inner ls
+
+-- the deeper level's packets and one `stop_`, or nothing where there is no deeper level
+unfoldable pub innerYield : (ls : List ℕ) → Inner ls → List Token
+innerYield [] i = []
+innerYield (m ∷ ls) ps = flatMap (λ p. p .0 ++ innerYield ls (p .1)) ps ++ (stop ∷ [])
+
+abbrev pub packetYield : (ls : List ℕ) → Packet ls → List Token
+packetYield ls p = p .0 ++ innerYield ls (p .1)
+
+-- whole packets: one value for each name of the level
+unfoldable pub InnerWhole : (ls : List ℕ) → Inner ls → Type 0
+InnerWhole [] i = Unit {0}
+InnerWhole (m ∷ ls) ps = Each (λ p. (length (p .0) ≡ m) × Each IsValue (p .0) × InnerWhole ls (p .1)) ps
+
+abbrev pub PacketWhole : (n : ℕ) (ls : List ℕ) → Packet ls → Type 0
+PacketWhole n ls p = (length (p .0) ≡ n) × Each IsValue (p .0) × InnerWhole ls (p .1)
+
+-- a loop: the names of level 1, those of each deeper level, the header stops, and the packets of level 1
+pub record Loop : Type 0 where
+  pub names : List Token
+  pub deeper : List (List Token)
+  pub stops : ℕ
+  pub packets : List (Packet (map length deeper))
+
+unfoldable pub loopYield : Loop → List Token
+loopYield l =
+    (loopStart ∷ l .names) ++ (flatMap (λ ns. loopStart ∷ ns) (l .deeper) ++ (replicate (l .stops) stop
+    ++ flatMap (packetYield (map length (l .deeper))) (l .packets)))
+
+-- at most so many levels (paper 01: 8), one name or more at each, at most one header stop for each inner level, one packet or more at level 1
+pub record LoopWhole (limit : ℕ) (l : Loop) : Type 0 where
+  pub some-name : 1 ≤ length (l .names)
+  pub some-names : Each (λ ns. 1 ≤ length ns) (l .deeper)
+  pub are-names : Each IsName (l .names)
+  pub are-deeper : Each (Each IsName) (l .deeper)
+  pub levels : length (l .deeper) < limit
+  pub stops-fit : l .stops ≤ length (l .deeper)
+  pub some-packet : 1 ≤ length (l .packets)
+  pub whole : Each (PacketWhole (length (l .names)) (map length (l .deeper))) (l .packets)
+
+-- an entry: a name and one value, or a loop
+pub data Entry : Type 0 where
+  item : (name value : Token) → Entry
+  looped : Loop → Entry
+
+unfoldable pub entryYield : Entry → List Token
+entryYield (item n v) = n ∷ v ∷ []
+entryYield (looped l) = loopYield l
+
+unfoldable pub EntryWhole : (limit : ℕ) → Entry → Type 0
+EntryWhole limit (item n v) = IsName n × IsValue v
+EntryWhole limit (looped l) = LoopWhole limit l
+
+-- a frame: a heading, any number of items and loops, and `save_`; frames do not nest
+pub record Frame : Type 0 where
+  pub heading : Token
+  pub entries : List Entry
+
+unfoldable pub frameYield : Frame → List Token
+frameYield f = f .heading ∷ (flatMap entryYield (f .entries) ++ (frameEnd ∷ []))
+
+pub record FrameWhole (limit : ℕ) (f : Frame) : Type 0 where
+  pub heading : f .heading .kind ≡ 2
+  pub entries : Each (EntryWhole limit) (f .entries)
+
+-- what a block holds: an entry of its own, or a frame
+pub data Member : Type 0 where
+  own : Entry → Member
+  framed : Frame → Member
+
+unfoldable pub memberYield : Member → List Token
+memberYield (own e) = entryYield e
+memberYield (framed f) = frameYield f
+
+unfoldable pub MemberWhole : (limit : ℕ) → Member → Type 0
+MemberWhole limit (own e) = EntryWhole limit e
+MemberWhole limit (framed f) = FrameWhole limit f
+
+-- a block: a heading and any number of items, loops and frames
+pub record Block : Type 0 where
+  pub heading : Token
+  pub members : List Member
+
+unfoldable pub blockYield : Block → List Token
+blockYield b = b .heading ∷ flatMap memberYield (b .members)
+
+pub record BlockWhole (limit : ℕ) (b : Block) : Type 0 where
+  pub heading : b .heading .kind ≡ 1
+  pub members : Each (MemberWhole limit) (b .members)
+
+-- a file: any number of blocks
+abbrev pub File : Type 0
+File = List Block
+
+abbrev pub fileYield : File → List Token
+fileYield f = flatMap blockYield f
+
+abbrev pub FileWhole : (limit : ℕ) → File → Type 0
+FileWhole limit f = Each (BlockWhole limit) f

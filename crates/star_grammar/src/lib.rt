@@ -1,0 +1,1 @@
+// The grammar over tokens.

@@ -1,0 +1,58 @@
+-- What the checks in their order answer: each answers the definition where those before it have passed.
+use mathlib.Core.Path.{_≡_, refl, sym, _∙_, ap}
+use mathlib.Core.Bool.{true, false, cond}
+use mathlib.Core.List.{List, []}
+use Prim.Native.Nat.{ℕ, _*_, _/_, _≤_, _<_}
+use native.Mathlib.Omega.{arith}
+use borrow.Author.Tests.{lt-ltb, le-ltb, le-leb, lt-leb}
+use lib.ListN.{length}
+use Rattle.star_text.specs.Bytes.{firstRefused}
+use Rattle.star_rows.proofs.Stored.{room}
+use Rattle.star_lex.specs.Tokens.{Placed}
+use Rattle.star_lex.specs.Split.{Split, refused, accepted, split, tokensOf}
+use Rattle.star_lex.specs.Found.{fitting, tokensIn, answerOf}
+use Rattle.star_lex.specs.declared.Tokens.{Tokens}
+use Rattle.star_lex.proofs.Cases.{impossible}
+use Rattle.star_lex.proofs.Splitting.{split-refused}
+
+module _ (file : List ℕ) (words : ℕ) where
+  pub tokens-too-long : 1048576 < length file → tokensIn file words ≡ refused 1 0
+  unfolding tokensIn
+  tokens-too-long h = rw (lt-leb (length file) 1048576 h)
+
+  pub tokens-refused-byte : length file ≤ 1048576 → firstRefused file < length file → tokensIn file words ≡ refused 2 (firstRefused file)
+  unfolding tokensIn tokensOf fitting
+  tokens-refused-byte h k = rw (le-leb (length file) 1048576 h, lt-ltb (firstRefused file) (length file) k)
+
+  pub tokens-split : length file ≤ 1048576 → length file ≤ firstRefused file → tokensIn file words ≡ fitting words (split 0 true 0 file)
+  unfolding tokensIn tokensOf
+  tokens-split h k = rw (le-leb (length file) 1048576 h, le-ltb (firstRefused file) (length file) k)
+
+-- an answer tells the split
+pub answer-refused : (s : Split) (r : Tokens) → r ≡ answerOf s → (r .refusal ≡ 0 → ⊥) → s ≡ refused (r .refusal) (r .place)
+unfolding answerOf
+answer-refused (refused n place) r e f =
+    let a : r .refusal ≡ n = ap (λ t. t .refusal) e in
+    let b : r .place ≡ place = ap (λ t. t .place) e in
+    cc
+answer-refused (accepted ps) r e f = absurd (f (ap (λ t. t .refusal) e))
+
+pub answer-accepted : (file : List ℕ) (r : Tokens) → r ≡ answerOf (split 0 true 0 file) → r .refusal ≡ 0
+    → (ps : List Placed) × (split 0 true 0 file ≡ accepted ps) × (r .count ≡ length ps)
+unfolding answerOf
+answer-accepted file r e z = go (split 0 true 0 file) refl e
+  where
+    go : (s : Split) → split 0 true 0 file ≡ s → r ≡ answerOf s → (ps : List Placed) × (split 0 true 0 file ≡ accepted ps) × (r .count ≡ length ps)
+    go (refused n place) q d =
+        let a : r .refusal ≡ n = ap (λ t. t .refusal) d in
+        absurd (omega (arith, split-refused 0 true 0 file n place q .0))
+    go (accepted ps) q d = (ps, q, ap (λ t. t .count) d)
+
+-- 7 for table 1, by its number of rows
+pub fitting-full : (words : ℕ) (ps : List Placed) → words / 3 < length ps → fitting words (accepted ps) ≡ refused 7 1
+unfolding fitting
+fitting-full words ps h = rw (room 3 (length ps) words (omega arith), lt-leb (length ps) (words / 3) h)
+
+pub fitting-room : (words : ℕ) (ps : List Placed) → length ps ≤ words / 3 → fitting words (accepted ps) ≡ accepted ps
+unfolding fitting
+fitting-room words ps h = rw (room 3 (length ps) words (omega arith), le-leb (length ps) (words / 3) h)

@@ -1,0 +1,13 @@
+pub mod Answers
+pub mod Cases
+pub mod Closing
+pub mod Delimited
+pub mod FreshName
+pub mod Lexemes
+pub mod Lexing
+pub mod Parts
+pub mod PlainSplit
+pub mod Splitting
+pub mod Steps
+pub mod WellFormed
+pub mod Words

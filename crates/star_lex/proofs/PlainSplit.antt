@@ -1,0 +1,266 @@
+-- The plain form of well-formed tokens splits into them again: at a token's first byte the rule of its kind is the first that fits, and it
+-- stops at the token's last byte; the byte 10 after it ends the line, so that the next token begins at a line's start.
+use mathlib.Core.Path.{_≡_, refl, _∙_, ap}
+use mathlib.Core.Bool.{Bool, true, false, cond, not, _&&_}
+use mathlib.Core.List.{List, [], _∷_, _++_, map, flatMap, append-assoc, append-nil}
+use mathlib.Core.Option.{none, some}
+use Prim.Native.Nat.{ℕ, suc, _+_, _≤_}
+use native.Mathlib.Nat.{add-suc, suc-add, add-zero, zero-add}
+use native.Mathlib.Numerals.{add-one}
+use native.Mathlib.Omega.{arith}
+use borrow.Author.Tests.{le-leb, le-ltb, eqb-true}
+use lib.Dec.{eqb}
+use lib.ListN.{length, length-append}
+use lib.Seq.{drop-append-add}
+use Rattle.star_text.specs.Bytes.{isBlank, isTerminate, isWhite, isPrintable, isAllowed, all, firstRefused}
+use Rattle.star_lex.specs.Tokens.{Token, Placed, Each, opening, dataWord, saveWord, loopWord, stopWord, globalWord}
+use Rattle.star_lex.specs.Split.{token, accepted, after, starts, whiteNext, quoted, limited, blockWord, frameWord, alone, nameWord, referenceWord, either, wordLexeme, wordFrom, quotedLexeme, fieldLexeme, lexeme, moreOf, before, enter, split, tokensOf}
+use Rattle.star_lex.specs.Plain.{closing, indent, plainToken, plainOf}
+use Rattle.star_lex.specs.WellFormed.{WellFormed, Ordinary, quotable, fieldable, block, frame, frameEnd, loop, stop, name, word, reference, single, double, text, global}
+use Rattle.star_text.proofs.Bytes.{eqb-comm, printable-not-white, printable-allowed, not-white-not-terminate, all-head, all-tail, all-append, all-cond, all-implies, run-append, run-all}
+use Rattle.star_lex.proofs.Delimited.{quoted-append, field-append}
+
+-- the split goes over bytes that belong to a lexeme already read
+pub split-skip : (xs rest : List ℕ) (at : ℕ) → split (length xs) false at (xs ++ rest) ≡ split 0 false (at + length xs) rest
+unfolding split
+split-skip [] rest at = rw add-zero
+split-skip (x ∷ xs) rest at = rw (add-suc, ← suc-add) (split-skip xs rest (suc at))
+
+-- a token with its delimiters
+abbrev body : Token → List ℕ
+body t = opening (t .kind) ++ (t .content ++ closing (t .kind))
+
+-- at the first byte of a token before a line end, the split finds that token
+record Reads (line : Bool) (t : Token) : Type 0 where
+  first : ℕ
+  others : List ℕ
+  bytes : body t ≡ first ∷ others
+  stays : isTerminate first ≡ false
+  reads : (rest : List ℕ) → lexeme line first (others ++ 10 ∷ rest) ≡ token (length others) t
+
+split-body : (line : Bool) (t : Token) (at : ℕ) (rest : List ℕ) → Reads line t
+    → split 0 line at (body t ++ 10 ∷ rest) ≡ before (record { at = at; token = t }) (split 0 true (suc (at + length (body t))) rest)
+unfolding split enter moreOf lexeme isWhite isBlank isTerminate
+split-body line t at rest r = rw (r .bytes) (rw (r .reads rest, r .stays) (rw (split-skip (r .others) (10 ∷ rest) (suc at), add-suc, suc-add)))
+
+-- a word's first byte opens nothing else
+record Opens (line : Bool) (b : ℕ) : Type 0 where
+  no-white : isWhite b ≡ false
+  no-comment : eqb b 35 ≡ false
+  no-text : (line && eqb b 59) ≡ false
+  no-quote : eqb b 39 ≡ false
+  no-double : eqb b 34 ≡ false
+
+lexeme-word : (line : Bool) (b : ℕ) (xs rest : List ℕ) → Opens line b → all isPrintable xs ≡ true
+    → lexeme line b (xs ++ 10 ∷ rest) ≡ wordLexeme (length xs) (b ∷ xs)
+unfolding lexeme wordFrom isWhite isBlank isTerminate
+lexeme-word line b xs rest o e =
+    rw (
+      o .no-white,
+      o .no-comment,
+      o .no-text,
+      o .no-quote,
+      o .no-double,
+      run-append (λ c. not (isWhite c)) xs 10 rest (all-implies isPrintable (λ c. not (isWhite c)) (λ c q. ap not (printable-not-white c q)) xs e) refl,
+    )
+
+reads-word : (line : Bool) (b : ℕ) (xs : List ℕ) (t : Token) → Opens line b → all isPrintable xs ≡ true → body t ≡ b ∷ xs
+    → wordLexeme (length xs) (b ∷ xs) ≡ token (length xs) t → Reads line t
+reads-word line b xs t o e h k = record {
+  first = b;
+  others = xs;
+  bytes = h;
+  stays = not-white-not-terminate b (o .no-white);
+  reads = λ rest. lexeme-word line b xs rest o e ∙ k;
+}
+
+reads-block : (x : ℕ) (xs : List ℕ) → all isPrintable (x ∷ xs) ≡ true → length (x ∷ xs) ≤ 32
+    → Reads true (record { kind = 1; content = x ∷ xs })
+unfolding opening closing dataWord wordLexeme either after blockWord limited isWhite isBlank isTerminate all isPrintable
+reads-block x xs e h =
+    reads-word true 100 (97 ∷ 116 ∷ 97 ∷ 95 ∷ x ∷ xs) _ (search) e (rw append-nil) (rw (le-leb (length (x ∷ xs)) 32 h))
+
+reads-frame : (x : ℕ) (xs : List ℕ) → all isPrintable (x ∷ xs) ≡ true → length (x ∷ xs) ≤ 32
+    → Reads true (record { kind = 2; content = x ∷ xs })
+unfolding opening closing dataWord saveWord wordLexeme either after frameWord limited isWhite isBlank isTerminate all isPrintable
+reads-frame x xs e h =
+    reads-word true 115 (97 ∷ 118 ∷ 101 ∷ 95 ∷ x ∷ xs) _ (search) e (rw append-nil) (rw (le-leb (length (x ∷ xs)) 32 h))
+
+reads-frame-end : Reads true (record { kind = 3; content = saveWord })
+unfolding opening closing dataWord saveWord wordLexeme either after frameWord isWhite isBlank isTerminate all isPrintable
+reads-frame-end = reads-word true 115 (97 ∷ 118 ∷ 101 ∷ 95 ∷ []) _ (search) refl refl refl
+
+reads-loop : Reads true (record { kind = 4; content = loopWord })
+unfolding opening closing dataWord saveWord loopWord wordLexeme either after alone isWhite isBlank isTerminate all isPrintable
+reads-loop = reads-word true 108 (111 ∷ 111 ∷ 112 ∷ 95 ∷ []) _ (search) refl refl refl
+
+reads-stop : Reads true (record { kind = 5; content = stopWord })
+unfolding opening closing dataWord saveWord loopWord stopWord wordLexeme either after alone isWhite isBlank isTerminate all isPrintable
+reads-stop = reads-word true 115 (116 ∷ 111 ∷ 112 ∷ 95 ∷ []) _ (search) refl refl refl
+
+reads-global : Reads true (record { kind = 12; content = globalWord })
+unfolding opening closing dataWord saveWord loopWord stopWord globalWord wordLexeme either after alone isWhite isBlank isTerminate all isPrintable
+reads-global = reads-word true 103 (108 ∷ 111 ∷ 98 ∷ 97 ∷ 108 ∷ 95 ∷ []) _ (search) refl refl refl
+
+reads-name : (x : ℕ) (xs : List ℕ) → all isPrintable (x ∷ xs) ≡ true → length (95 ∷ x ∷ xs) ≤ 32
+    → Reads true (record { kind = 6; content = 95 ∷ x ∷ xs })
+unfolding opening closing dataWord saveWord loopWord stopWord globalWord wordLexeme either after nameWord limited isWhite isBlank isTerminate
+reads-name x xs e h =
+    reads-word true 95 (x ∷ xs) _ (search) e (rw append-nil) (rw (le-leb (length (95 ∷ x ∷ xs)) 32 h))
+
+reads-reference : (x : ℕ) (xs : List ℕ) → all isPrintable (x ∷ xs) ≡ true → Reads true (record { kind = 8; content = x ∷ xs })
+unfolding opening closing dataWord saveWord loopWord stopWord globalWord wordLexeme either after referenceWord isWhite isBlank isTerminate
+reads-reference x xs e =
+    reads-word true 36 (x ∷ xs) _ (search) e (rw append-nil) refl
+
+wordLexeme-ordinary : (more x : ℕ) (xs : List ℕ) → Ordinary x xs → wordLexeme more (x ∷ xs) ≡ token more (record { kind = 7; content = x ∷ xs })
+unfolding wordLexeme either after referenceWord
+wordLexeme-ordinary more x xs o =
+    rw (o .no-data, o .no-save, o .no-loop, o .no-stop, o .no-global, eqb-comm 95 x, o .no-name, eqb-comm 36 x) (go (eqb x 36) refl)
+  where
+    go : (t : Bool) → eqb x 36 ≡ t → either (cond t (some xs) none) (referenceWord more) (token more (record { kind = 7; content = x ∷ xs })) ≡ token more (record { kind = 7; content = x ∷ xs })
+    go true q = rw (o .no-reference q, eqb-true x 36 q)
+    go false q = refl
+
+reads-ordinary : (line : Bool) (x : ℕ) (xs : List ℕ) → all isPrintable (x ∷ xs) ≡ true → Ordinary x xs → (line && eqb x 59) ≡ false
+    → Reads line (record { kind = 7; content = x ∷ xs })
+unfolding opening closing
+reads-ordinary line x xs e o n =
+    reads-word line x xs _
+    (record {
+      no-white = printable-not-white x (all-head isPrintable x xs e);
+      no-comment = o .no-comment;
+      no-text = n;
+      no-quote = o .no-quote;
+      no-double = o .no-double;
+    }) (all-tail isPrintable x xs e) (rw append-nil) (wordLexeme-ordinary (length xs) x xs o)
+
+quotedLexeme-append : (kind q : ℕ) (c rest : List ℕ) → isWhite q ≡ false → quotable q c ≡ true
+    → quotedLexeme kind (quoted q ((c ++ q ∷ []) ++ 10 ∷ rest)) ≡ token (length (c ++ q ∷ [])) (record { kind = kind; content = c })
+unfolding quotedLexeme
+quotedLexeme-append kind q c rest w e = rw (append-assoc, quoted-append q c rest w e, length-append, add-one)
+
+reads-single : (c : List ℕ) → quotable 39 c ≡ true → Reads true (record { kind = 9; content = c })
+unfolding opening closing lexeme isWhite isBlank isTerminate
+reads-single c e = record {
+  first = 39;
+  others = c ++ 39 ∷ [];
+  bytes = refl;
+  stays = refl;
+  reads = λ rest. quotedLexeme-append 9 39 c rest refl e;
+}
+
+reads-double : (c : List ℕ) → quotable 34 c ≡ true → Reads true (record { kind = 10; content = c })
+unfolding opening closing lexeme isWhite isBlank isTerminate
+reads-double c e = record {
+  first = 34;
+  others = c ++ 34 ∷ [];
+  bytes = refl;
+  stays = refl;
+  reads = λ rest. quotedLexeme-append 10 34 c rest refl e;
+}
+
+reads-text : (c : List ℕ) → fieldable c ≡ true → Reads true (record { kind = 11; content = c })
+unfolding opening closing lexeme fieldLexeme whiteNext isWhite isBlank isTerminate
+reads-text c e = record {
+  first = 59;
+  others = c ++ 10 ∷ 59 ∷ [];
+  bytes = refl;
+  stays = refl;
+  reads = λ rest. rw (append-assoc, field-append c 10 (10 ∷ rest) refl e, drop-append-add c (10 ∷ 59 ∷ 10 ∷ rest) 2, length-append);
+}
+
+-- a token's bytes stand at the line's start or after one blank, and are read there
+data Stands (t : Token) : Type 0 where
+  bare : indent t ≡ [] → Reads true t → Stands t
+  indented : indent t ≡ 32 ∷ [] → Reads false t → Stands t
+
+stands : {t : Token} → WellFormed t → Stands t
+unfolding indent starts
+stands (block x xs e h) = bare refl (reads-block x xs e h)
+stands (frame x xs e h) = bare refl (reads-frame x xs e h)
+stands frameEnd = bare refl reads-frame-end
+stands loop = bare refl reads-loop
+stands stop = bare refl reads-stop
+stands (name x xs e h) = bare refl (reads-name x xs e h)
+stands (word x xs e o) = go (eqb x 59) refl
+  where
+    go : (t : Bool) → eqb x 59 ≡ t → Stands (record { kind = 7; content = x ∷ xs })
+    go true q = indented (rw q) (reads-ordinary false x xs e o refl)
+    go false q = bare (rw q) (reads-ordinary true x xs e o q)
+stands (reference x xs e) = bare refl (reads-reference x xs e)
+stands (single c a e) = bare refl (reads-single c e)
+stands (double c a e) = bare refl (reads-double c e)
+stands (text c a e) = bare refl (reads-text c e)
+stands global = bare refl reads-global
+
+plainToken-append : (t : Token) (rest : List ℕ) → plainToken t ++ rest ≡ indent t ++ (body t ++ 10 ∷ rest)
+unfolding plainToken
+plainToken-append t rest = simp append-assoc
+
+length-plainToken : (t : Token) → length (plainToken t) ≡ length (indent t) + suc (length (body t))
+unfolding plainToken
+length-plainToken t = simp length-append (omega arith)
+
+-- a token's plain form at a line's start: its first byte comes after what indents it
+split-plain : (t : Token) (at : ℕ) (rest : List ℕ) → Stands t
+    → split 0 true at (plainToken t ++ rest)
+    ≡ before (record { at = at + length (indent t); token = t }) (split 0 true (at + length (plainToken t)) rest)
+unfolding split enter moreOf lexeme isWhite isBlank isTerminate
+split-plain t at rest (bare e r) = rw (plainToken-append, length-plainToken, e) (rw (split-body true t at rest r, add-zero, zero-add, add-suc))
+split-plain t at rest (indented e r) =
+    let q : suc (suc at + length (body t)) ≡ at + (1 + suc (length (body t))) = omega arith in
+    rw (plainToken-append, length-plainToken, e) (rw (split-body false t (suc at) rest r, q, add-one))
+
+split-plainOf : (ts : List Token) (at : ℕ) → Each WellFormed ts
+    → (ps : List Placed) × (split 0 true at (plainOf ts) ≡ accepted ps) × (map (λ p. p .token) ps ≡ ts)
+unfolding plainOf flatMap split before
+split-plainOf [] at ws = ([], refl, refl)
+split-plainOf (t ∷ ts) at ws =
+    let (ps, e, h) = split-plainOf ts (at + length (plainToken t)) (ws .1) in
+    (record { at = at + length (indent t); token = t } ∷ ps, rw (split-plain t at (plainOf ts) (stands (ws .0)), e), rw h)
+
+printables-allowed : (xs : List ℕ) → all isPrintable xs ≡ true → all isAllowed xs ≡ true
+printables-allowed = all-implies isPrintable isAllowed printable-allowed
+
+allowed-content : {t : Token} → WellFormed t → all isAllowed (t .content) ≡ true
+unfolding all isAllowed saveWord loopWord stopWord globalWord
+allowed-content (block x xs e h) = printables-allowed (x ∷ xs) e
+allowed-content (frame x xs e h) = printables-allowed (x ∷ xs) e
+allowed-content frameEnd = refl
+allowed-content loop = refl
+allowed-content stop = refl
+allowed-content (name x xs e h) = printables-allowed (x ∷ xs) e
+allowed-content (word x xs e o) = printables-allowed (x ∷ xs) e
+allowed-content (reference x xs e) = printables-allowed (x ∷ xs) e
+allowed-content (single c a e) = a
+allowed-content (double c a e) = a
+allowed-content (text c a e) = a
+allowed-content global = refl
+
+allowed-opening : (kind : ℕ) → all isAllowed (opening kind) ≡ true
+unfolding opening all isAllowed dataWord saveWord
+allowed-opening kind = search (all-cond isAllowed) depth 8
+
+allowed-closing : (kind : ℕ) → all isAllowed (closing kind) ≡ true
+unfolding closing all isAllowed
+allowed-closing kind = search (all-cond isAllowed) depth 8
+
+allowed-indent : (t : Token) → all isAllowed (indent t) ≡ true
+unfolding indent all isAllowed
+allowed-indent t = search (all-cond isAllowed) depth 8
+
+allowed-plain : {t : Token} → WellFormed t → all isAllowed (plainToken t) ≡ true
+unfolding plainToken all isAllowed
+allowed-plain {t} w = simp (all-append isAllowed, allowed-indent t, allowed-opening (t .kind), allowed-content w, allowed-closing (t .kind))
+
+allowed-plainOf : (ts : List Token) → Each WellFormed ts → all isAllowed (plainOf ts) ≡ true
+unfolding plainOf flatMap all
+allowed-plainOf [] ws = refl
+allowed-plainOf (t ∷ ts) ws = rw (all-append isAllowed, allowed-plain (ws .0), allowed-plainOf ts (ws .1))
+
+pub lex-plain : (ts : List Token) → Each WellFormed ts → (ps : List Placed) × (tokensOf (plainOf ts) ≡ accepted ps) × (map (λ p. p .token) ps ≡ ts)
+unfolding tokensOf firstRefused
+lex-plain ts ws =
+    let (ps, e, h) = split-plainOf ts 0 ws in
+    (ps, rw (run-all isAllowed (plainOf ts) (allowed-plainOf ts ws), le-ltb (length (plainOf ts)) (length (plainOf ts)) (omega arith)) e, h)

@@ -1,0 +1,131 @@
+-- `read_tokens` meets its contract: the checks stand in the order of the definition, and each refusal clears the table.
+use mathlib.Core.Path.{_≡_, sym, _∙_, ap}
+use Prim.Native.Nat.{ℕ, _*_, _/_, _≤_, _<_}
+use native.Mathlib.Omega.{arith}
+use borrow.Author.Needs.{needs}
+use lib.ListN.{length, replicate}
+use Rattle.star_rows.specs.Rows.{clearedFrom}
+use Rattle.star_rows.proofs.Stored.{stored-holding}
+use Rattle.star_lex.specs.Tokens.{tokenRow}
+use Rattle.star_lex.specs.Split.{refused, accepted}
+use Rattle.star_lex.specs.Found.{fitting, answerOf, tableOf}
+use Rattle.star_lex.proofs.Splitting.{row-wide}
+use Rattle.star_lex.proofs.Answers.{tokens-too-long, tokens-refused-byte, tokens-split, answer-refused, answer-accepted, fitting-full, fitting-room}
+use Rattle.star_lex.proofs.read_tokens.Statement.{statement}
+use Rattle.star_lex.proofs.read_tokens.Tie as tie
+
+refuse-requires : tie.Need-refuse-requires
+refuse-requires c κs = search needs
+
+same-length : tie.Need-same-length
+same-length c = search needs
+
+returns : tie.Need-returns
+unfolding tableOf fitting
+returns c =
+    let t = tokens-too-long (c .before .before .before .before .before .before .before .args .file .now) (length (c .before .before .before .before .before .before .before .args .table .now)) (c .before .before .before .before .if1 .taken) in
+    (c .before .before .refuse .ensures .0 ∙ sym (ap answerOf t), c .before .before .refuse .ensures .1 ∙ sym (ap (λ s. tableOf s (length (c .before .before .before .before .before .before .before .args .table .now))) t))
+
+first-refused-requires : tie.Need-first-refused-requires
+first-refused-requires c κs = search needs
+
+cast-refuse : tie.Need-cast-refuse
+cast-refuse c = search needs
+
+refuse-requires-2 : tie.Need-refuse-requires-2
+refuse-requires-2 c κs = search needs
+
+same-length-2 : tie.Need-same-length-2
+same-length-2 c = search needs
+
+returns-2 : tie.Need-returns-2
+unfolding tableOf fitting
+returns-2 c =
+    let t = tokens-refused-byte (c .before .before .before .before .before .before .before .before .before .args .file .now) (length (c .before .before .before .before .before .before .before .before .before .args .table .now)) (c .before .before .before .before .before .before .if1 .left) (rw (c .before .before .before .before .before .first-refused .ensures) at (c .before .before .before .before .if2 .taken)) in (
+      c .before .before .refuse2 .ensures .0 ∙ ap (λ n. answerOf (refused 2 n)) (c .before .before .before .before .before .first-refused .ensures) ∙ sym (ap answerOf t),
+      c .before .before .refuse2 .ensures .1 ∙ sym (ap (λ s. tableOf s (length (c .before .before .before .before .before .before .before .before .before .args .table .now))) t),
+    )
+
+split-requires : tie.Need-split-requires
+split-requires c κs = search needs
+
+refuse-requires-3 : tie.Need-refuse-requires-3
+refuse-requires-3 c κs = search needs
+
+same-length-3 : tie.Need-same-length-3
+same-length-3 c = search needs
+
+returns-3 : tie.Need-returns-3
+unfolding tableOf fitting
+returns-3 c =
+    let t = tokens-split (c .before .before .before .before .before .before .before .before .before .before .before .before .before .before .before .args .file .now) (length (c .before .before .before .before .before .before .before .before .before .before .before .before .before .before .before .args .table .now)) (c .before .before .before .before .before .before .before .before .before .before .before .before .if1 .left) (rw (c .before .before .before .before .before .before .before .before .before .before .before .first-refused .ensures) at (c .before .before .before .before .before .before .before .before .before .before .if2 .left)) ∙ ap (fitting (length (c .before .before .before .before .before .before .before .before .before .before .before .before .before .before .before .args .table .now))) (answer-refused _ (c .before .before .before .before .before .before .before .before .split .result) (c .before .before .before .before .before .before .before .before .split .ensures .0) (c .before .before .before .before .if3 .taken)) in (
+      c .before .before .refuse3 .ensures .0 ∙ sym (ap answerOf t),
+      c .before .before .refuse3 .ensures .1 ∙ ap (λ n. replicate n 0) (c .before .before .before .before .before .before .before .before .split .kept .1 .0) ∙ sym (ap (λ s. tableOf s (length (c .before .before .before .before .before .before .before .before .before .before .before .before .before .before .before .args .table .now))) t),
+    )
+
+cast-count : tie.Need-cast-count
+cast-count c = search needs
+
+refuse-requires-4 : tie.Need-refuse-requires-4
+refuse-requires-4 c κs = search needs
+
+same-length-4 : tie.Need-same-length-4
+same-length-4 c = search needs
+
+returns-4 : tie.Need-returns-4
+unfolding tableOf fitting
+returns-4 c =
+    let (ps, q, r) = answer-accepted (c .before .before .before .before .before .before .before .before .before .before .before .before .before .before .before .before .before .args .file .now) (c .before .before .before .before .before .before .before .before .before .before .split .result) (c .before .before .before .before .before .before .before .before .before .before .split .ensures .0) (c .before .before .before .before .before .before .if3 .left) in
+    let k : length (c .before .before .before .before .before .before .before .before .before .before .split .last .1 .0) ≡ (length (c .before .before .before .before .before .before .before .before .before .before .before .before .before .before .before .before .before .args .table .now)) = c .before .before .before .before .before .before .before .before .before .before .split .kept .1 .0 in
+    let t = tokens-split (c .before .before .before .before .before .before .before .before .before .before .before .before .before .before .before .before .before .args .file .now) (length (c .before .before .before .before .before .before .before .before .before .before .before .before .before .before .before .before .before .args .table .now)) (c .before .before .before .before .before .before .before .before .before .before .before .before .before .before .if1 .left) (rw (c .before .before .before .before .before .before .before .before .before .before .before .before .before .first-refused .ensures) at (c .before .before .before .before .before .before .before .before .before .before .before .before .if2 .left)) ∙ ap (fitting (length (c .before .before .before .before .before .before .before .before .before .before .before .before .before .before .before .before .before .args .table .now))) q ∙ fitting-full (length (c .before .before .before .before .before .before .before .before .before .before .before .before .before .before .before .before .before .args .table .now)) ps (omega (arith, c .before .before .before .before .if4 .taken)) in (
+      c .before .before .refuse4 .ensures .0 ∙ sym (ap answerOf t),
+      c .before .before .refuse4 .ensures .1 ∙ ap (λ n. replicate n 0) k ∙ sym (ap (λ s. tableOf s (length (c .before .before .before .before .before .before .before .before .before .before .before .before .before .before .before .before .before .args .table .now))) t),
+    )
+
+mul-clear-from : tie.Need-mul-clear-from
+mul-clear-from c = search needs
+
+clear-from-requires : tie.Need-clear-from-requires
+clear-from-requires c κs = search needs
+
+same-length-5 : tie.Need-same-length-5
+same-length-5 c = search needs
+
+returns-5 : tie.Need-returns-5
+unfolding tableOf fitting
+returns-5 c =
+    let (ps, q, r) = answer-accepted (c .before .before .before .before .before .before .before .before .before .before .before .before .before .before .before .before .before .args .file .now) (c .before .before .before .before .before .before .before .before .before .before .split .result) (c .before .before .before .before .before .before .before .before .before .before .split .ensures .0) (c .before .before .before .before .before .before .if3 .left) in
+    let k : length (c .before .before .before .before .before .before .before .before .before .before .split .last .1 .0) ≡ (length (c .before .before .before .before .before .before .before .before .before .before .before .before .before .before .before .before .before .args .table .now)) = c .before .before .before .before .before .before .before .before .before .before .split .kept .1 .0 in
+    let t = tokens-split (c .before .before .before .before .before .before .before .before .before .before .before .before .before .before .before .before .before .args .file .now) (length (c .before .before .before .before .before .before .before .before .before .before .before .before .before .before .before .before .before .args .table .now)) (c .before .before .before .before .before .before .before .before .before .before .before .before .before .before .if1 .left) (rw (c .before .before .before .before .before .before .before .before .before .before .before .before .before .first-refused .ensures) at (c .before .before .before .before .before .before .before .before .before .before .before .before .if2 .left)) ∙ ap (fitting (length (c .before .before .before .before .before .before .before .before .before .before .before .before .before .before .before .before .before .args .table .now))) q ∙ fitting-room (length (c .before .before .before .before .before .before .before .before .before .before .before .before .before .before .before .before .before .args .table .now)) ps (omega (arith, c .before .before .before .before .if4 .left)) in (
+      c .before .before .before .before .before .before .before .before .before .before .split .ensures .0 ∙ ap answerOf q ∙ sym (ap answerOf t),
+      c .before .before .clear-from .ensures
+          ∙ ap (λ n. clearedFrom (n * 3) (c .before .before .before .before .before .before .before .before .before .before .split .last .1 .0)) r
+          ∙ ap (clearedFrom (length ps * 3)) (c .before .before .before .before .before .before .before .before .before .before .split .ensures .1 ps q)
+          ∙ stored-holding 3 tokenRow row-wide (omega arith) ps (c .before .before .before .before .before .before .before .before .before .before .before .before .before .before .before .before .before .args .table .now) (omega (arith, c .before .before .before .before .if4 .left))
+          ∙ sym (ap (λ s. tableOf s (length (c .before .before .before .before .before .before .before .before .before .before .before .before .before .before .before .before .before .args .table .now))) t),
+    )
+
+pub read-tokens-spec : {M : Type 1} → statement M
+read-tokens-spec =
+    tie.close
+    (tie.spec
+    refuse-requires
+    same-length
+    returns
+    first-refused-requires
+    cast-refuse
+    refuse-requires-2
+    same-length-2
+    returns-2
+    split-requires
+    refuse-requires-3
+    same-length-3
+    returns-3
+    cast-count
+    refuse-requires-4
+    same-length-4
+    returns-4
+    mul-clear-from
+    clear-from-requires
+    same-length-5
+    returns-5)

@@ -1,0 +1,78 @@
+-- `quote_end` meets its contract: where no string closes at a byte and no line ends, it closes where it does from the next byte on.
+use mathlib.Core.Path.{_≡_, refl, sym, _∙_}
+use Prim.Native.Nat.{_+_, _-_}
+use native.Mathlib.Omega.{arith}
+use borrow.Author.Needs.{needs}
+use lib.ListN.{length, drop}
+use Rattle.star_lex.specs.Split.{quoted}
+use Rattle.star_lex.specs.Found.{endOf}
+use Rattle.star_lex.proofs.Closing.{quote-at, quote-over}
+use Rattle.star_lex.proofs.scan.quote_end.Statement.{statement}
+use Rattle.star_lex.proofs.scan.quote_end.Tie as tie
+
+abbrev Inv-loop : tie.InvT-loop
+Inv-loop file from quote at₀ at = endOf (length file) at (quoted quote (drop at file)) ≡ endOf (length file) from (quoted quote (drop from file))
+
+abbrev μ-loop : tie.MeasureT-loop
+μ-loop file from quote at₀ at = length file - at
+
+loop-holds : tie.Need-loop-holds Inv-loop μ-loop
+loop-holds c = refl
+
+quote-closes-requires : tie.Need-quote-closes-requires Inv-loop μ-loop
+quote-closes-requires c κs = omega arith
+
+returns : tie.Need-returns Inv-loop μ-loop
+returns c =
+    sym (quote-at _ _ (c .before .before .before .loop .at) _ (omega arith) ∙ (rw (sym (c .before .quote-closes .ensures) ∙ c .if1 .taken)))
+    ∙ c .before .before .before .loop .inv
+
+shared-slice-read-is-terminate : tie.Need-shared-slice-read-is-terminate Inv-loop μ-loop
+shared-slice-read-is-terminate c = omega arith
+
+is-terminate-requires : tie.Need-is-terminate-requires Inv-loop μ-loop
+is-terminate-requires c κs = search needs
+
+returns-2 : tie.Need-returns-2 Inv-loop μ-loop
+returns-2 c =
+    sym (quote-at _ _ (c .before .before .before .before .before .before .loop .at) _ (omega arith)
+    ∙ (rw (
+      sym (c .before .before .before .before .quote-closes .ensures) ∙ c .before .before .before .if1 .left,
+      sym (c .before .is-terminate .ensures) ∙ c .if2 .taken,
+    )))
+    ∙ c .before .before .before .before .before .before .loop .inv
+
+add-at : tie.Need-add-at Inv-loop μ-loop
+add-at c = omega arith
+
+loop-less : tie.Need-loop-less Inv-loop μ-loop
+loop-less c = omega arith
+
+loop-again : tie.Need-loop-again Inv-loop μ-loop
+loop-again c =
+    sym (quote-at _ _ (c .before .before .before .before .before .before .loop .at) _ (omega arith)
+    ∙ (rw (
+      sym (c .before .before .before .before .quote-closes .ensures) ∙ c .before .before .before .if1 .left,
+      sym (c .before .is-terminate .ensures) ∙ c .if2 .left,
+    )))
+    ∙ c .before .before .before .before .before .before .loop .inv
+
+returns-3 : tie.Need-returns-3 Inv-loop μ-loop
+returns-3 c = sym (quote-over _ _ (c .before .loop .at) _ (omega arith)) ∙ c .before .loop .inv
+
+pub quote-end-spec : {M : Type 1} → statement M
+quote-end-spec =
+    tie.close
+    (tie.spec
+    Inv-loop
+    μ-loop
+    loop-holds
+    quote-closes-requires
+    returns
+    shared-slice-read-is-terminate
+    is-terminate-requires
+    returns-2
+    add-at
+    loop-less
+    loop-again
+    returns-3)

@@ -1,0 +1,21 @@
+-- `white_at` meets its contract: the end counts as white space.
+use mathlib.Core.Path.{sym, _∙_}
+use borrow.Author.Needs.{needs}
+use Rattle.star_lex.proofs.Closing.{white-in, white-end}
+use Rattle.star_lex.proofs.scan.white_at.Statement.{statement}
+use Rattle.star_lex.proofs.scan.white_at.Tie as tie
+
+shared-slice-read-is-white : tie.Need-shared-slice-read-is-white
+shared-slice-read-is-white c = search needs
+
+is-white-requires : tie.Need-is-white-requires
+is-white-requires c κs = search needs
+
+returns : tie.Need-returns
+returns c = c .is-white .ensures ∙ sym (white-in _ _ (c .before .before .if1 .taken))
+
+returns-2 : tie.Need-returns-2
+returns-2 c = sym (white-end _ _ (c .if1 .left))
+
+pub white-at-spec : {M : Type 1} → statement M
+white-at-spec = tie.close (tie.spec shared-slice-read-is-white is-white-requires returns returns-2)

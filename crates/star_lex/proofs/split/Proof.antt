@@ -1,0 +1,138 @@
+-- `split` meets its contract: what the turns have found and the split of what is left are the split of the file.
+use mathlib.Core.Path.{_≡_, sym, _∙_, ap}
+use Prim.Native.Nat.{ℕ, _-_}
+use native.Mathlib.Omega.{arith}
+use borrow.Author.Needs.{needs}
+use lib.ListN.{length}
+use Rattle.star_rows.specs.Rows.{stored}
+use Rattle.star_rows.proofs.Stored.{length-stored}
+use Rattle.star_lex.specs.Tokens.{tokenRow}
+use Rattle.star_lex.specs.Found.{answerOf}
+use Rattle.star_lex.specs.declared.Tokens.{Tokens}
+use Rattle.star_lex.proofs.Cases.{impossible}
+use Rattle.star_lex.proofs.Splitting.{Progress, progress-start, turn-gap, turn-token, turn-fault, finished, row-wide}
+use Rattle.star_lex.proofs.split.Statement.{statement}
+use Rattle.star_lex.proofs.split.Tie as tie
+
+abbrev Inv-loop : tie.InvT-loop
+Inv-loop file table₀ at₀ line₀ count₀ table at line count = Progress file table₀ table at count line
+
+abbrev μ-loop : tie.MeasureT-loop
+μ-loop file table₀ at₀ line₀ count₀ table at line count = length file - at
+
+loop-holds : tie.Need-loop-holds Inv-loop μ-loop
+loop-holds c = progress-start (c .before .before .args .file .now) (c .before .before .args .table .now)
+
+lexeme-requires : tie.Need-lexeme-requires Inv-loop μ-loop
+lexeme-requires c κs = omega arith
+
+shared-slice-read-is-terminate : tie.Need-shared-slice-read-is-terminate Inv-loop μ-loop
+shared-slice-read-is-terminate c = omega arith
+
+is-terminate-requires : tie.Need-is-terminate-requires Inv-loop μ-loop
+is-terminate-requires c κs = search needs
+
+enum-known-found : tie.Need-enum-known-found Inv-loop μ-loop
+enum-known-found c = search needs
+
+loop-less : tie.Need-loop-less Inv-loop μ-loop
+loop-less c =
+    let t = turn-gap (c .before .before .before .before .before .before .before .before .before .before .args .file .now) (c .before .before .before .before .before .before .before .before .before .before .args .table .now) (c .before .before .before .before .before .before .before .loop .table) (c .before .before .before .before .before .before .before .loop .at) (c .before .before .before .before .before .before .before .loop .count) (c .before .before .before .before .before .before .before .loop .line) (c .before .before .before .before .before .before .before .loop .inv) (omega arith) (c .before .found .given .0 .0) (sym (c .before .before .before .before .before .lexeme .ensures) ∙ c .before .found .given .1) in
+    omega (arith, t .1)
+
+loop-again : tie.Need-loop-again Inv-loop μ-loop
+loop-again c =
+    let t = turn-gap (c .before .before .before .before .before .before .before .before .before .before .args .file .now) (c .before .before .before .before .before .before .before .before .before .before .args .table .now) (c .before .before .before .before .before .before .before .loop .table) (c .before .before .before .before .before .before .before .loop .at) (c .before .before .before .before .before .before .before .loop .count) (c .before .before .before .before .before .before .before .loop .line) (c .before .before .before .before .before .before .before .loop .inv) (omega arith) (c .before .found .given .0 .0) (sym (c .before .before .before .before .before .lexeme .ensures) ∙ c .before .found .given .1) in
+    rw (c .before .before .before .is-terminate .ensures) (t .0)
+
+enum-known-found-2 : tie.Need-enum-known-found-2 Inv-loop μ-loop
+enum-known-found-2 c = search needs
+
+cast-put3 : tie.Need-cast-put3 Inv-loop μ-loop
+cast-put3 c =
+    let t = turn-token (c .before .before .before .before .before .before .before .before .before .before .before .args .file .now) (c .before .before .before .before .before .before .before .before .before .before .before .args .table .now) (c .before .before .before .before .before .before .before .before .loop .table) (c .before .before .before .before .before .before .before .before .loop .at) (c .before .before .before .before .before .before .before .before .loop .count) (c .before .before .before .before .before .before .before .before .loop .line) (c .before .before .before .before .before .before .before .before .loop .inv) (omega arith) (c .before .before .found2 .given .0 .0) (c .before .before .found2 .given .0 .1 .0) (c .before .before .found2 .given .0 .1 .1 .0) (c .before .before .found2 .given .0 .1 .1 .1 .0) (sym (c .before .before .before .before .before .before .lexeme .ensures) ∙ c .before .before .found2 .given .1) in
+    omega (arith, t .2, c .before .before .before .before .before .before .before .before .before .before .before .pre)
+
+cast-put3-2 : tie.Need-cast-put3-2 Inv-loop μ-loop
+cast-put3-2 c =
+    let t = turn-token (c .before .before .before .before .before .before .before .before .before .before .before .args .file .now) (c .before .before .before .before .before .before .before .before .before .before .before .args .table .now) (c .before .before .before .before .before .before .before .before .loop .table) (c .before .before .before .before .before .before .before .before .loop .at) (c .before .before .before .before .before .before .before .before .loop .count) (c .before .before .before .before .before .before .before .before .loop .line) (c .before .before .before .before .before .before .before .before .loop .inv) (omega arith) (c .before .before .found2 .given .0 .0) (c .before .before .found2 .given .0 .1 .0) (c .before .before .found2 .given .0 .1 .1 .0) (c .before .before .found2 .given .0 .1 .1 .1 .0) (sym (c .before .before .before .before .before .before .lexeme .ensures) ∙ c .before .before .found2 .given .1) in
+    omega (arith, t .3, c .before .before .before .before .before .before .before .before .before .before .before .pre)
+
+put3-requires : tie.Need-put3-requires Inv-loop μ-loop
+put3-requires c κs = search needs
+
+add-count : tie.Need-add-count Inv-loop μ-loop
+add-count c =
+    omega (arith, c .before .before .before .before .before .before .before .before .before .before .before .loop .inv .few)
+
+loop-less-2 : tie.Need-loop-less-2 Inv-loop μ-loop
+loop-less-2 c =
+    let t = turn-token (c .before .before .before .before .before .before .before .before .before .before .before .before .before .before .args .file .now) (c .before .before .before .before .before .before .before .before .before .before .before .before .before .before .args .table .now) (c .before .before .before .before .before .before .before .before .before .before .before .loop .table) (c .before .before .before .before .before .before .before .before .before .before .before .loop .at) (c .before .before .before .before .before .before .before .before .before .before .before .loop .count) (c .before .before .before .before .before .before .before .before .before .before .before .loop .line) (c .before .before .before .before .before .before .before .before .before .before .before .loop .inv) (omega arith) (c .before .before .before .before .before .found2 .given .0 .0) (c .before .before .before .before .before .found2 .given .0 .1 .0) (c .before .before .before .before .before .found2 .given .0 .1 .1 .0) (c .before .before .before .before .before .found2 .given .0 .1 .1 .1 .0) (sym (c .before .before .before .before .before .before .before .before .before .lexeme .ensures) ∙ c .before .before .before .before .before .found2 .given .1) in
+    omega (arith, t .1)
+
+loop-again-2 : tie.Need-loop-again-2 Inv-loop μ-loop
+loop-again-2 c =
+    let t = turn-token (c .before .before .before .before .before .before .before .before .before .before .before .before .before .before .args .file .now) (c .before .before .before .before .before .before .before .before .before .before .before .before .before .before .args .table .now) (c .before .before .before .before .before .before .before .before .before .before .before .loop .table) (c .before .before .before .before .before .before .before .before .before .before .before .loop .at) (c .before .before .before .before .before .before .before .before .before .before .before .loop .count) (c .before .before .before .before .before .before .before .before .before .before .before .loop .line) (c .before .before .before .before .before .before .before .before .before .before .before .loop .inv) (omega arith) (c .before .before .before .before .before .found2 .given .0 .0) (c .before .before .before .before .before .found2 .given .0 .1 .0) (c .before .before .before .before .before .found2 .given .0 .1 .1 .0) (c .before .before .before .before .before .found2 .given .0 .1 .1 .1 .0) (sym (c .before .before .before .before .before .before .before .before .before .lexeme .ensures) ∙ c .before .before .before .before .before .found2 .given .1) in
+    rw (c .before .before .put3 .ensures, c .before .before .before .before .before .before .before .is-terminate .ensures) (t .0)
+
+enum-known-found-3 : tie.Need-enum-known-found-3 Inv-loop μ-loop
+enum-known-found-3 c = search needs
+
+cast-t22 : tie.Need-cast-t22 Inv-loop μ-loop
+cast-t22 c = omega (arith, c .before .before .before .before .before .before .before .before .before .before .pre)
+
+same-length : tie.Need-same-length Inv-loop μ-loop
+same-length c = ap length (c .before .before .before .before .before .before .before .loop .inv .rows) ∙ length-stored 3 tokenRow row-wide (omega arith) (c .before .before .before .before .before .before .before .loop .inv .done) (c .before .before .before .before .before .before .before .before .before .before .args .table .now)
+
+-- the answer of an accepted file
+abbrev answer : ℕ → Tokens
+answer n = record { refusal = 0; place = 0; count = n }
+
+returns : tie.Need-returns Inv-loop μ-loop
+unfolding answerOf
+returns c =
+    let f = turn-fault (c .before .before .before .before .before .before .before .before .before .before .args .file .now) (c .before .before .before .before .before .before .before .before .before .before .args .table .now) (c .before .before .before .before .before .before .before .loop .table) (c .before .before .before .before .before .before .before .loop .at) (c .before .before .before .before .before .before .before .loop .count) (c .before .before .before .before .before .before .before .loop .line) (c .before .before .before .before .before .before .before .loop .inv) (omega arith) (c .before .found3 .given .0 .0) (sym (c .before .before .before .before .before .lexeme .ensures) ∙ c .before .found3 .given .1) in
+    (sym (ap answerOf f), λ ps e. impossible cc)
+
+cast-t23 : tie.Need-cast-t23 Inv-loop μ-loop
+cast-t23 c = omega (arith, c .before .loop .inv .few, c .before .loop .inv .inside, c .before .before .before .before .pre)
+
+same-length-2 : tie.Need-same-length-2 Inv-loop μ-loop
+same-length-2 c = ap length (c .before .loop .inv .rows) ∙ length-stored 3 tokenRow row-wide (omega arith) (c .before .loop .inv .done) (c .before .before .before .before .args .table .now)
+
+returns-2 : tie.Need-returns-2 Inv-loop μ-loop
+unfolding answerOf
+returns-2 c =
+    let p = c .before .loop .inv in
+    let f = finished (c .before .before .before .before .args .file .now) (c .before .before .before .before .args .table .now) (c .before .loop .table) (c .before .loop .at) (c .before .loop .count) (c .before .loop .line) (c .before .loop .inv) (omega arith) in (
+      ap (λ n. answer n) (p .counted) ∙ sym (ap answerOf f),
+      λ ps e. let q : p .done ≡ ps = cc in p .rows ∙ ap (λ d. stored 3 tokenRow d (c .before .before .before .before .args .table .now)) q,
+    )
+
+pub split-spec : {M : Type 1} → statement M
+split-spec =
+    tie.close
+    (tie.spec
+    Inv-loop
+    μ-loop
+    loop-holds
+    lexeme-requires
+    shared-slice-read-is-terminate
+    is-terminate-requires
+    enum-known-found
+    loop-less
+    loop-again
+    enum-known-found-2
+    cast-put3
+    cast-put3-2
+    put3-requires
+    add-count
+    loop-less-2
+    loop-again-2
+    enum-known-found-3
+    cast-t22
+    same-length
+    returns
+    cast-t23
+    same-length-2
+    returns-2)

@@ -1,0 +1,56 @@
+-- What the functions of this crate answer, in terms of the split.
+use mathlib.Core.Bool.{Bool, true, false, cond}
+use mathlib.Core.List.{List}
+use mathlib.Core.Option.{Option, none, some}
+use Prim.Native.Nat.{ℕ, suc, _+_, _*_}
+use lib.Dec.{leb}
+use lib.ListN.{length, replicate}
+use Rattle.star_rows.specs.Rows.{holding}
+use Rattle.star_lex.specs.Tokens.{Token, Placed, opening, tokenRow}
+use Rattle.star_lex.specs.Split.{Lexeme, gap, token, faulty, Split, refused, accepted, tokensOf}
+use Rattle.star_lex.specs.declared.Found.{Found}
+use Rattle.star_lex.specs.declared.Found.the-variants.{Gap, Token as FoundToken, Fault}
+use Rattle.star_lex.specs.declared.Tokens.{Tokens}
+use Rattle.star_lex.specs.declared.word.Word.{Word}
+use Rattle.star_lex.specs.declared.word.Word.the-variants.{Kind, Ill}
+
+-- 1, then 2 over the whole file, then the first faulty token of 3 to 6; then 7 for table 1, of so many words
+unfoldable pub fitting : ℕ → Split → Split
+fitting words (refused n place) = refused n place
+fitting words (accepted ps) = cond (leb (length ps * 3) words) (accepted ps) (refused 7 1)
+
+unfoldable pub tokensIn : List ℕ → (words : ℕ) → Split
+tokensIn file words = cond (leb (length file) 1048576) (fitting words (tokensOf file)) (refused 1 0)
+
+-- refusal, place and number of tokens
+unfoldable pub answerOf : Split → Tokens
+answerOf (refused n place) = record { refusal = n; place = place; count = 0 }
+answerOf (accepted ps) = record { refusal = 0; place = 0; count = length ps }
+
+-- table 1, of so many words
+unfoldable pub tableOf : Split → (words : ℕ) → List ℕ
+tableOf (refused n place) words = replicate words 0
+tableOf (accepted ps) words = holding tokenRow ps words
+
+-- a lexeme at a place: where it ends; of a token its kind, and start and end of its content
+unfoldable pub foundAt : ℕ → Lexeme → Found
+foundAt at (gap more) = Gap (at + 1 + more)
+foundAt at (token more t) =
+    let start : ℕ = at + length (opening (t .kind)) in
+    FoundToken (t .kind) start (start + length (t .content)) (at + 1 + more)
+foundAt at (faulty n) = Fault n
+
+-- a content that begins at a place ends there; where there is none, at the end of the file
+unfoldable pub endOf : (size at : ℕ) → Option (List ℕ) → ℕ
+endOf size at none = size
+endOf size at (some c) = at + length c
+
+unfoldable pub isSome : Option (List ℕ) → Bool
+isSome none = false
+isSome (some c) = true
+
+-- the kind of a word's token, or its refusal
+unfoldable pub kindOf : Lexeme → Word
+kindOf (gap more) = Ill 0
+kindOf (token more t) = Kind (t .kind)
+kindOf (faulty n) = Ill n

@@ -1,0 +1,5 @@
+pub mod Tokens
+pub mod Split
+pub mod Plain
+pub mod WellFormed
+pub mod Found

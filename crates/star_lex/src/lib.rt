@@ -1,0 +1,213 @@
+// The split of a STAR File into tokens, and table 1.
+pub mod scan;
+pub mod word;
+
+use word::Word;
+ghost use mathlib.Core.Path.{_≡_};
+ghost use mathlib.Core.List.{List};
+ghost use Prim.Native.Nat.{_+_, _≤_, _<_};
+ghost use lib.ListN.{length, getD, drop, replicate};
+ghost use Rattle.star_rows.specs.Rows.{stored};
+ghost use mathlib.Core.Bool.{true, false, _&&_};
+ghost use lib.Dec.{eqb};
+ghost use Rattle.star_text.specs.Bytes.{isWhite};
+ghost use Rattle.star_lex.specs.Tokens.{Placed, tokenRow, opening};
+ghost use Rattle.star_lex.specs.Split.{refused, accepted, quoted, field, fieldLexeme, quotedLexeme, wordFrom, split as Split·split, lexeme as Split·lexeme};
+ghost use Rattle.star_lex.specs.Found.{tokensIn, answerOf, tableOf, foundAt};
+
+// The most bytes that a file may have.
+const LIMIT: usize = 1048576;
+
+// The classes of bytes that white space and line ends begin with.
+const BLANK: u8 = 2;
+
+const TERMINATE: u8 = 3;
+
+// What splitting a file answers: refusal and place, both 0 when accepted, and the number of tokens.
+pub struct Tokens {
+    pub refusal: u32,
+    pub place: u32,
+    pub count: u32,
+}
+
+// What stands at a place outside tokens: white space or a comment, a token, or a fault.
+pub enum Found {
+    Gap(usize),
+    Token {
+        kind: u32,
+        start: usize,
+        end: usize,
+        next: usize,
+    },
+    Fault(u32),
+}
+
+// The text field whose `;` stands at `at`.
+fn text_field(file: &[u8], at: usize) -> Found
+    requires { ⌜ at < length (now file) ⌝ }
+    ensures { λ r. ⌜ r ≡ foundAt at (fieldLexeme (field (drop (at + 1) (now (file .entry)))) (drop (at + 1) (now (file .entry)))) ⌝ }
+{
+    let end = scan::field_end(file, at + 1);
+    if end == file.len() {
+        return Found::Fault(6);
+    }
+    if scan::white_at(file, end + 2) {
+        Found::Token {
+            kind: 11,
+            start: at + 1,
+            end,
+            next: end + 2,
+        }
+    } else {
+        Found::Fault(6)
+    }
+}
+
+// The quoted string whose quote stands at `at`, a token of this kind.
+fn quoted_string(file: &[u8], at: usize, kind: u32, quote: u8) -> Found
+    requires { ⌜ at < length (now file) ⌝ }
+    requires { ⌜ length (opening kind) ≡ 1 ⌝ }
+    requires { ⌜ isWhite quote ≡ false ⌝ }
+    ensures { λ r. ⌜ r ≡ foundAt at (quotedLexeme kind (quoted quote (drop (at + 1) (now (file .entry))))) ⌝ }
+{
+    let end = scan::quote_end(file, at + 1, quote);
+    if end == file.len() {
+        Found::Fault(5)
+    } else {
+        Found::Token {
+            kind,
+            start: at + 1,
+            end,
+            next: end + 1,
+        }
+    }
+}
+
+// The word that begins at `at`.
+fn word_at(file: &[u8], at: usize) -> Found
+    requires { ⌜ at < length (now file) ⌝ }
+    requires { ⌜ isWhite (getD (now file) at 0) ≡ false ⌝ }
+    ensures { λ r. ⌜ r ≡ foundAt at (wordFrom (getD (now (file .entry)) at 0) (drop (at + 1) (now (file .entry)))) ⌝ }
+{
+    let end = star_text::run_end(file, at + 1, BLANK);
+    match word::word_kind(&file[at..end]) {
+        Word::Kind(kind) => Found::Token {
+            kind,
+            start: at + word::lead(kind),
+            end,
+            next: end,
+        },
+        Word::Ill(number) => Found::Fault(number),
+    }
+}
+
+// Whether a text field begins with this byte: `;` as first byte of a line.
+fn opens_field(line: bool, b: u8) -> bool
+    ensures { λ r. ⌜ r ≡ (line && eqb b 59) ⌝ }
+{
+    if line { b == b';' } else { false }
+}
+
+// What stands at a place outside tokens; whether a line starts there.
+fn lexeme(file: &[u8], at: usize, line: bool) -> Found
+    requires { ⌜ at < length (now file) ⌝ }
+    ensures { λ r. ⌜ r ≡ foundAt at (Split·lexeme line (getD (now (file .entry)) at 0) (drop (at + 1) (now (file .entry)))) ⌝ }
+{
+    let b = file[at];
+    if star_text::is_white(b) {
+        return Found::Gap(at + 1);
+    }
+    if b == b'#' {
+        return Found::Gap(star_text::run_end(file, at + 1, TERMINATE));
+    }
+    if opens_field(line, b) {
+        return text_field(file, at);
+    }
+    if b == b'\'' {
+        return quoted_string(file, at, 9, b);
+    }
+    if b == b'"' {
+        return quoted_string(file, at, 10, b);
+    }
+    word_at(file, at)
+}
+
+// The tokens of a file: rows that fit are written, and all are counted.
+fn split(file: &[u8], table: &mut [u32]) -> Tokens
+    requires { ⌜ length (now file) ≤ 1048576 ⌝ }
+    ensures { λ r. ⌜ r ≡ answerOf (Split·split 0 true 0 (now (file .entry))) ⌝ }
+    ensures { λ _. ⌜ ((ps : List Placed) → Split·split 0 true 0 (now (file .entry)) ≡ accepted ps
+        → now (table .exit) ≡ stored 3 tokenRow ps (now (table .entry))) ⌝ }
+{
+    let mut at = 0;
+    let mut line = true;
+    let mut count: usize = 0;
+    while at < file.len() {
+        let found = lexeme(file, at, line);
+        line = star_text::is_terminate(file[at]);
+        match found {
+            Found::Gap(next) => {
+                at = next;
+            }
+            Found::Token {
+                kind,
+                start,
+                end,
+                next,
+            } => {
+                star_rows::put3(table, count, kind, start as u32, end as u32);
+                count += 1;
+                at = next;
+            }
+            Found::Fault(number) => {
+                return Tokens {
+                    refusal: number,
+                    place: at as u32,
+                    count: 0,
+                };
+            }
+        }
+    }
+    Tokens {
+        refusal: 0,
+        place: 0,
+        count: count as u32,
+    }
+}
+
+// A refusal: every word of the table is 0.
+fn refuse(table: &mut [u32], refusal: u32, place: u32) -> Tokens
+    ensures { λ r. ⌜ r ≡ answerOf (refused refusal place) ⌝ }
+    ensures { λ _. ⌜ now (table .exit) ≡ replicate (length (now (table .entry))) 0 ⌝ }
+{
+    star_rows::clear_from(table, 0);
+    Tokens {
+        refusal,
+        place,
+        count: 0,
+    }
+}
+
+// Splits a file into tokens and stores them as table 1; on a refusal every word of it is 0.
+pub fn read_tokens(file: &[u8], table: &mut [u32]) -> Tokens
+    ensures { λ r. ⌜ r ≡ answerOf (tokensIn (now (file .entry)) (length (now (table .entry)))) ⌝ }
+    ensures { λ _. ⌜ now (table .exit) ≡ tableOf (tokensIn (now (file .entry)) (length (now (table .entry)))) (length (now (table .entry))) ⌝ }
+{
+    if LIMIT < file.len() {
+        return refuse(table, 1, 0);
+    }
+    let at = star_text::first_refused(file);
+    if at < file.len() {
+        return refuse(table, 2, at as u32);
+    }
+    let found = split(file, table);
+    if found.refusal != 0 {
+        return refuse(table, found.refusal, found.place);
+    }
+    let count = found.count as usize;
+    if table.len() / 3 < count {
+        return refuse(table, 7, 1);
+    }
+    star_rows::clear_from(table, count * 3);
+    found
+}

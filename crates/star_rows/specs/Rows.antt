@@ -1,0 +1,25 @@
+-- Rows of words in a table: paper 01, "The five tables".
+use mathlib.Core.Bool.{cond}
+use mathlib.Core.List.{List, _++_, flatMap}
+use Prim.Native.Nat.{ℕ, _+_, _-_, _*_, _/_}
+use lib.Dec.{ltb}
+use lib.ListN.{length, take, drop, replicate}
+use lib.Seq.{sets}
+
+-- a table of that many words that holds these rows: words after the last row are 0
+unfoldable pub holding {ℓ} : {A : Type ℓ} → (A → List ℕ) → List A → ℕ → List ℕ
+holding row xs words = flatMap row xs ++ replicate (words - length (flatMap row xs)) 0
+
+-- the words from a place on are 0
+unfoldable pub clearedFrom : ℕ → List ℕ → List ℕ
+clearedFrom at words = take at words ++ replicate (length words - at) 0
+
+-- a row is written as the n-th of its width, counted from 0, if it fits
+unfoldable pub putRow : List ℕ → ℕ → List ℕ → List ℕ
+putRow row n words = cond (ltb n (length words / length row)) (sets words (n * length row) row) words
+
+-- the rows that fit a table, all of that width, over what the table held before
+unfoldable pub stored {ℓ} : {A : Type ℓ} → ℕ → (A → List ℕ) → List A → List ℕ → List ℕ
+stored width row xs words =
+    let first : List ℕ = flatMap row (take (length words / width) xs) in
+    first ++ drop (length first) words

@@ -1,0 +1,70 @@
+-- `first_refused` meets its contract. The invariant: the bytes passed are allowed, so what is allowed from the start is what was passed
+-- and what is allowed from here.
+use mathlib.Core.Path.{_≡_, sym, _∙_, ap}
+use Prim.Native.Nat.{_≤_, _+_, _-_}
+use native.Mathlib.Numerals.{add-one}
+use native.Mathlib.Omega.{arith}
+use borrow.Author.Needs.{needs}
+use borrow.Author.Tests.{not-true, not-false}
+use denote.Ref.{now}
+use lib.ListN.{length, drop}
+use Rattle.star_text.specs.Bytes.{run, isAllowed, firstRefused}
+use Rattle.star_text.proofs.Run.{run-goes, run-stops, run-ends}
+use Rattle.star_text.proofs.first_refused.Statement.{statement}
+use Rattle.star_text.proofs.first_refused.Tie as tie
+
+abbrev Inv-loop : tie.InvT-loop
+Inv-loop file at₀ at = (at ≤ length file) × (at + length (run isAllowed (drop at file)) ≡ length (run isAllowed file))
+
+abbrev μ-loop : tie.MeasureT-loop
+μ-loop file at₀ at = length file - at
+
+loop-holds : tie.Need-loop-holds Inv-loop μ-loop
+loop-holds c = omega arith
+
+shared-slice-read-is-allowed : tie.Need-shared-slice-read-is-allowed Inv-loop μ-loop
+shared-slice-read-is-allowed c = omega arith
+
+is-allowed-requires : tie.Need-is-allowed-requires Inv-loop μ-loop
+is-allowed-requires c κs = search needs
+
+returns : tie.Need-returns Inv-loop μ-loop
+unfolding firstRefused
+returns c =
+    sym (run-stops isAllowed (now (c .before .before .before .before .before .before .args .file)) (c .before .before .before .before .loop .at) (omega arith)
+    (sym (c .before .is-allowed .ensures) ∙ not-true _ (c .if1 .taken)))
+    ∙ c .before .before .before .before .loop .inv .1
+
+add-at : tie.Need-add-at Inv-loop μ-loop
+add-at c = omega arith
+
+loop-less : tie.Need-loop-less Inv-loop μ-loop
+loop-less c = omega arith
+
+loop-again : tie.Need-loop-again Inv-loop μ-loop
+loop-again c = (
+  omega arith,
+  sym (run-goes isAllowed (now (c .before .before .before .before .before .before .args .file)) (c .before .before .before .before .loop .at) (omega arith)
+      (sym (c .before .is-allowed .ensures) ∙ not-false _ (c .if1 .left)))
+      ∙ c .before .before .before .before .loop .inv .1,
+)
+
+returns-2 : tie.Need-returns-2 Inv-loop μ-loop
+unfolding firstRefused
+returns-2 c =
+    sym (run-ends isAllowed (now (c .before .before .before .args .file)) (c .before .loop .at) (omega arith)) ∙ c .before .loop .inv .1
+
+pub first-refused-spec : {M : Type 1} → statement M
+first-refused-spec =
+    tie.close
+    (tie.spec
+    Inv-loop
+    μ-loop
+    loop-holds
+    shared-slice-read-is-allowed
+    is-allowed-requires
+    returns
+    add-at
+    loop-less
+    loop-again
+    returns-2)

@@ -1,0 +1,14 @@
+-- `is_white` meets its contract by the rule of the table.
+use borrow.Author.Needs.{needs}
+use Rattle.star_text.proofs.Classes.{white-is}
+use Rattle.star_text.proofs.is_white.Statement.{statement}
+use Rattle.star_text.proofs.is_white.Tie as tie
+
+class-of-requires : tie.Need-class-of-requires
+class-of-requires c κs = search needs
+
+returns : tie.Need-returns
+returns c = rw (c .class-of .ensures) (white-is (c .before .args .b) (c .before .fits .b .fits))
+
+pub is-white-spec : {M : Type 1} → statement M
+is-white-spec = tie.close (tie.spec class-of-requires returns)

@@ -1,0 +1,79 @@
+-- What a table that holds a file's tokens says of each: its words are those of its row, and its span is a part of the file, as every token of a
+-- split is.
+use mathlib.Core.Path.{_≡_, refl, sym, _∙_, ap}
+use mathlib.Core.List.{List, [], _∷_}
+use Prim.Native.Nat.{ℕ, zero, suc, _+_, _-_, _*_, _≤_, _<_}
+use native.Mathlib.Nat.{add-zero}
+use native.Mathlib.Omega.{arith}
+use lib.ListN.{length, getD, take, drop, length-map, List·getD-map}
+use Rattle.star_lex.specs.Tokens.{Placed, Each, opening, tokenRow}
+use Rattle.star_lex.specs.Split.{Split, refused, accepted, tokensOf, placed}
+use Rattle.star_lex.proofs.Parts.{PartOf, split-parts, contentEnd}
+use Rattle.star_rows.proofs.Held.{held-word}
+use Rattle.star_unique.specs.Holds.{Holds, fileTokens, tokenAt}
+use Rattle.star_unique.specs.Repeat.{Taken, takes}
+use Rattle.star_unique.specs.Seen.{takesAll}
+use Rattle.star_unique.proofs.Clean.{takes-next}
+
+each-at {ℓ} : {A : Type ℓ} (P : A → Type 0) (xs : List A) (n : ℕ) (d : A) → n < length xs → Each P xs → P (getD xs n d)
+each-at P [] n d h e = absurd (omega arith)
+each-at P (x ∷ xs) zero d h e = e .0
+each-at P (x ∷ xs) (suc n) d h e = each-at P xs n d (omega arith) (e .1)
+
+row-wide : (p : Placed) → length (tokenRow p) ≡ 3
+unfolding tokenRow
+row-wide p = refl
+
+tokens-parts : (file : List ℕ) → Each (PartOf file) (placed (tokensOf file))
+unfolding placed
+tokens-parts file = go (tokensOf file) refl
+  where
+    go : (s : Split) → tokensOf file ≡ s → Each (PartOf file) (placed s)
+    go (refused n place) e = tt
+    go (accepted ps) e = split-parts file ps e
+
+-- no token, which stands where there is none
+abbrev nowhere : Placed
+nowhere = record { at = 0; token = record { kind = 0; content = [] } }
+
+-- the words of a row, and the part of the file that it spans
+pub record Row (file words : List ℕ) (n : ℕ) : Type 0 where
+  pub kind : getD words (n * 3) 0 ≡ tokenAt file n .kind
+  pub ordered : getD words (n * 3 + 1) 0 ≤ getD words (n * 3 + 2) 0
+  pub within : getD words (n * 3 + 2) 0 ≤ length file
+  pub content : take (getD words (n * 3 + 2) 0 - getD words (n * 3 + 1) 0) (drop (getD words (n * 3 + 1) 0) file) ≡ tokenAt file n .content
+
+-- a kind that is read is the token's
+pub kind-is : {file words : List ℕ} {n : ℕ} → Row file words n → (k : ℕ) → getD words (n * 3) 0 ≡ k → tokenAt file n .kind ≡ k
+kind-is r k e = sym (r .kind) ∙ e
+
+pub kind-not : {file words : List ℕ} {n : ℕ} → Row file words n → (k : ℕ) → (getD words (n * 3) 0 ≡ k → ⊥) → tokenAt file n .kind ≡ k → ⊥
+kind-not r k d e = d (r .kind ∙ e)
+
+pub count-tokens : (file words : List ℕ) (count : ℕ) → Holds file words count → count ≡ length (fileTokens file)
+count-tokens file words count h = h .count-is ∙ sym (length-map (placed (tokensOf file)) (λ p. p .token))
+
+-- what is taken after one token more of the file
+pub takes-token : (file words : List ℕ) (count : ℕ) → Holds file words count → (s : Taken) (n : ℕ) → n < count
+    → takesAll s (take (n + 1) (fileTokens file)) ≡ takes (takesAll s (take n (fileTokens file))) (tokenAt file n)
+takes-token file words count h s n below = takes-next s (fileTokens file) n _ (omega (arith, count-tokens file words count h))
+
+module _ (file words : List ℕ) (count : ℕ) (h : Holds file words count) (n : ℕ) (below : n < count) where
+  row-word : (k : ℕ) → k < 3 → getD words (n * 3 + k) 0 ≡ getD (tokenRow (getD (placed (tokensOf file)) n nowhere)) k 0
+  row-word k j = ap (λ ws. getD ws (n * 3 + k) 0) (h .rows) ∙ held-word 3 tokenRow row-wide nowhere (placed (tokensOf file)) (length words) n k (omega arith) j
+
+  pub held-row : Row file words n
+  unfolding tokenRow
+  held-row =
+      let p : Placed = getD (placed (tokensOf file)) n nowhere in
+      let t : tokenAt file n ≡ p .token = List·getD-map (λ p. p .token) (placed (tokensOf file)) n nowhere in
+      let part : PartOf file p = each-at (PartOf file) (placed (tokensOf file)) n nowhere (omega arith) (tokens-parts file) in
+      let start : getD words (n * 3 + 1) 0 ≡ p .at + length (opening (p .token .kind)) = row-word 1 (omega arith) in
+      let end : getD words (n * 3 + 2) 0 ≡ contentEnd p = row-word 2 (omega arith) in
+      let size : getD words (n * 3 + 2) 0 - getD words (n * 3 + 1) 0 ≡ length (p .token .content) = omega arith in
+      record {
+        kind = ap (λ i. getD words i 0) (sym (add-zero (n * 3))) ∙ row-word 0 (omega arith) ∙ ap (λ u. u .kind) (sym t);
+        ordered = omega arith;
+        within = omega (arith, part .whole);
+        content = rw (size, start) (sym (part .content) ∙ ap (λ u. u .content) (sym t));
+      }

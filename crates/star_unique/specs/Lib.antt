@@ -1,0 +1,3 @@
+pub mod Repeat
+pub mod Holds
+pub mod Seen

@@ -1,0 +1,63 @@
+-- The first name or code of a row of tokens that is already taken: paper 01, "Names are unique within a block, its frames not counted, and
+-- within a frame. Frame codes are unique within a block, block codes within the file."
+use mathlib.Core.Bool.{Bool, true, false, cond, _&&_, _||_}
+use mathlib.Core.List.{List, [], _∷_, _++_}
+use Prim.Native.Nat.{ℕ, suc}
+use lib.Dec.{eqb}
+use Rattle.star_lex.specs.Tokens.{Token}
+
+-- names and codes are compared byte by byte
+unfoldable pub same : List ℕ → List ℕ → Bool
+same [] [] = true
+same [] (b ∷ bs) = false
+same (a ∷ xs) [] = false
+same (a ∷ xs) (b ∷ bs) = eqb a b && same xs bs
+
+unfoldable pub among : List ℕ → List (List ℕ) → Bool
+among x [] = false
+among x (y ∷ ys) = same x y || among x ys
+
+-- what is taken so far: block codes of the file, frame codes and own names of the open block, names of the open frame, and whether a frame is open
+pub record Taken : Type 0 where
+  pub blocks : List (List ℕ)
+  pub frames : List (List ℕ)
+  pub names : List (List ℕ)
+  pub inner : List (List ℕ)
+  pub inFrame : Bool
+
+unfoldable pub nothing : Taken
+nothing = record { blocks = []; frames = []; names = []; inner = []; inFrame = false }
+
+-- a name or code equal to one that is taken
+unfoldable pub isTaken : Taken → Token → Bool
+isTaken s t =
+    cond (eqb (t .kind) 1) (among (t .content) (s .blocks))
+    (cond (eqb (t .kind) 2) (among (t .content) (s .frames))
+    (cond (eqb (t .kind) 6) (among (t .content) (cond (s .inFrame) (s .inner) (s .names))) false))
+
+unfoldable pub takeBlock : Taken → Token → Taken
+takeBlock s t = record { blocks = s .blocks ++ (t .content ∷ []); frames = []; names = []; inner = []; inFrame = false }
+
+unfoldable pub takeFrame : Taken → Token → Taken
+takeFrame s t = record { blocks = s .blocks; frames = s .frames ++ (t .content ∷ []); names = s .names; inner = []; inFrame = true }
+
+unfoldable pub endFrame : Taken → Taken
+endFrame s = record { blocks = s .blocks; frames = s .frames; names = s .names; inner = []; inFrame = false }
+
+unfoldable pub takeName : Taken → Token → Taken
+takeName s t =
+    cond (s .inFrame)
+    (record { blocks = s .blocks; frames = s .frames; names = s .names; inner = s .inner ++ (t .content ∷ []); inFrame = true })
+    (record { blocks = s .blocks; frames = s .frames; names = s .names ++ (t .content ∷ []); inner = s .inner; inFrame = false })
+
+-- what is taken after a token
+unfoldable pub takes : Taken → Token → Taken
+takes s t =
+    cond (eqb (t .kind) 1) (takeBlock s t)
+    (cond (eqb (t .kind) 2) (takeFrame s t)
+    (cond (eqb (t .kind) 3) (endFrame s) (cond (eqb (t .kind) 6) (takeName s t) s)))
+
+-- how many tokens stand before the first that is taken; all of them where none is
+unfoldable pub firstRepeat : Taken → List Token → ℕ
+firstRepeat s [] = 0
+firstRepeat s (t ∷ ts) = cond (isTaken s t) 0 (suc (firstRepeat (takes s t) ts))
