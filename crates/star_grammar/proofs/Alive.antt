@@ -16,11 +16,11 @@ use Rattle.star_grammar.proofs.Sound.{no-packet, set-blocks, set-end, h
 use Rattle.star_grammar.proofs.Accepts.{Good, accepts}
 
 -- what a step leads to, in a walk
-abbrev walkOn : (limit : ℕ) → List Token → Step → Step
+abbrev pub walkOn : (limit : ℕ) → List Token → Step → Step
 walkOn limit ts (go s r) = walk limit s ts r
 walkOn limit ts (refuse n) = refuse n
 
-walk-on : (limit : ℕ) (st : State) (t : Token) (ts : List Token) (r : Rows)
+pub walk-on : (limit : ℕ) (st : State) (t : Token) (ts : List Token) (r : Rows)
     → walk limit st (t ∷ ts) r ≡ walkOn limit ts (step limit st (sortOf (t .kind)) r)
 unfolding walk
 walk-on limit st t ts r = at (step limit st (sortOf (t .kind)) r) refl
@@ -29,11 +29,11 @@ walk-on limit st t ts r = at (step limit st (sortOf (t .kind)) r) refl
     at (go s r′) e = rw (e, walk)
     at (refuse n) e = rw (e, walk)
 
-refuse-go : (n : ℕ) (s : State) (r : Rows) → refuse n ≡ go s r → ⊥
+pub refuse-go : (n : ℕ) (s : State) (r : Rows) → refuse n ≡ go s r → ⊥
 refuse-go n s r e = let z : _≡_ {A = ℕ} 0 1 = cc in omega arith
 
 -- a property of states that goes back over each step of a walk
-walk-induction : (limit : ℕ) (P : State → List Token → Rows → Type 0) (st′ : State) (r′ : Rows)
+pub walk-induction : (limit : ℕ) (P : State → List Token → Rows → Type 0) (st′ : State) (r′ : Rows)
     → P st′ [] r′
     → ((st s : State) (t : Token) (p : List Token) (r r″ : Rows) → step limit st (sortOf (t .kind)) r ≡ go s r″ → P s p r″ → P st (t ∷ p) r)
     → (p : List Token) (st : State) (r : Rows) → walk limit st p r ≡ go st′ r′ → P st p r

@@ -7,3 +7,9 @@ pub mod Sound
 pub mod Accepts
 pub mod Alive
 pub mod StepRest
+pub mod Passing
+pub mod Walking
+pub mod Formed
+pub mod Limits
+pub mod Refusals
+pub mod Marks

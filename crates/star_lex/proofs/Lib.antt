@@ -2,6 +2,7 @@ pub mod Answers
 pub mod Cases
 pub mod Closing
 pub mod Delimited
+pub mod Each
 pub mod FreshName
 pub mod Lexemes
 pub mod Lexing

@@ -1,6 +1,7 @@
 pub mod After
 pub mod Clean
 pub mod Distinct
+pub mod First
 pub mod Fresh
 pub mod Held
 pub mod Names

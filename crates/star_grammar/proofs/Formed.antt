@@ -1,0 +1,81 @@
+-- Well-formed tokens are as files have them, and what completes a file is well formed: its kinds and words are known.
+use mathlib.Core.Path.{_≡_, refl}
+use mathlib.Core.List.{List, [], _∷_}
+use Prim.Native.Nat.{ℕ, zero, suc, _≤_}
+use native.Mathlib.Omega.{arith}
+use Rattle.star_text.specs.Bytes.{isPrintable, all}
+use Rattle.star_lex.specs.Tokens.{Token, Each, dataWord, saveWord, loopWord, stopWord, globalWord}
+use Rattle.star_lex.specs.Split.{after}
+use Rattle.star_lex.specs.WellFormed.{WellFormed}
+use Rattle.star_lex.specs.WellFormed as WellFormed
+use Rattle.star_lex.proofs.Each.{each-append, each-implies}
+use Rattle.star_grammar.specs.Tree.{frameEnd, stop}
+use Rattle.star_grammar.specs.Machine.{State, start, within, named, header, body}
+use Rattle.star_grammar.specs.Rest.{Fixed, zeroWord, naming, ending, completion}
+use Rattle.star_grammar.proofs.Alive.{each-ending}
+
+-- a kind that fixes no content
+fixed-other : (kind : ℕ) (content : List ℕ) → (1 ≤ kind) × (kind ≤ 12) × (kind ≡ 3 → ⊥) × (kind ≡ 4 → ⊥) × (kind ≡ 5 → ⊥)
+    → Fixed (record { kind = kind; content = content })
+fixed-other kind content h = record {
+  least = h .0;
+  most = h .1;
+  save-is = λ e. absurd (h .2 e);
+  loop-is = λ e. absurd (h .3 e);
+  stop-is = λ e. absurd (h .4 e);
+}
+
+pub formed-fixed : {t : Token} → WellFormed t → Fixed t
+formed-fixed (WellFormed.block x xs e h) = fixed-other 1 (x ∷ xs) (omega arith)
+formed-fixed (WellFormed.frame x xs e h) = fixed-other 2 (x ∷ xs) (omega arith)
+formed-fixed WellFormed.frameEnd =
+    record { least = omega arith; most = omega arith; save-is = λ e. refl; loop-is = λ e. absurd (omega arith); stop-is = λ e. absurd (omega arith) }
+formed-fixed WellFormed.loop =
+    record { least = omega arith; most = omega arith; save-is = λ e. absurd (omega arith); loop-is = λ e. refl; stop-is = λ e. absurd (omega arith) }
+formed-fixed WellFormed.stop =
+    record { least = omega arith; most = omega arith; save-is = λ e. absurd (omega arith); loop-is = λ e. absurd (omega arith); stop-is = λ e. refl }
+formed-fixed (WellFormed.name x xs e h) = fixed-other 6 (95 ∷ x ∷ xs) (omega arith)
+formed-fixed (WellFormed.word x xs e o) = fixed-other 7 (x ∷ xs) (omega arith)
+formed-fixed (WellFormed.reference x xs e) = fixed-other 8 (x ∷ xs) (omega arith)
+formed-fixed (WellFormed.single c a e) = fixed-other 9 c (omega arith)
+formed-fixed (WellFormed.double c a e) = fixed-other 10 c (omega arith)
+formed-fixed (WellFormed.text c a e) = fixed-other 11 c (omega arith)
+formed-fixed WellFormed.global = fixed-other 12 globalWord (omega arith)
+
+pub each-fixed : (ts : List Token) → Each WellFormed ts → Each Fixed ts
+each-fixed = each-implies WellFormed Fixed (λ t h. formed-fixed h)
+
+formed-zero : WellFormed zeroWord
+unfolding zeroWord all isPrintable after dataWord saveWord loopWord stopWord globalWord
+formed-zero = WellFormed.word 48 [] refl (record {
+  no-comment = refl;
+  no-quote = refl;
+  no-double = refl;
+  no-name = refl;
+  no-reference = λ e. refl;
+  no-data = refl;
+  no-save = refl;
+  no-loop = refl;
+  no-stop = refl;
+  no-global = refl;
+})
+
+formed-stop : WellFormed stop
+unfolding stop
+formed-stop = WellFormed.stop
+
+formed-end : WellFormed frameEnd
+unfolding frameEnd
+formed-end = WellFormed.frameEnd
+
+formed-naming : (st : State) (x : Token) → WellFormed x → Each WellFormed (naming st x)
+formed-naming start x h = tt
+formed-naming (within w) x h = tt
+formed-naming (named w) x h = tt
+formed-naming (header w first before zero s) x h = (h, tt)
+formed-naming (header w first before (suc n) s) x h = tt
+formed-naming (body w outer l inner f) x h = tt
+
+pub formed-completion : (st : State) (x : Token) → WellFormed x → Each WellFormed (completion st x)
+formed-completion st x h =
+    each-append WellFormed (naming st x) (ending st) .1 (formed-naming st x h, each-ending WellFormed formed-zero formed-stop formed-end st)

@@ -1,0 +1,123 @@
+-- Rows of tokens that begin a file, seen from the machine: a row of well-formed tokens begins a file with a reading exactly when each step over
+-- it is taken and it repeats nothing. What completes it has one new name at most, and the plain form of them all is such a file.
+use mathlib.Core.Path.{_≡_, refl, sym, _∙_}
+use mathlib.Core.List.{List, [], _++_, List·Memᴰ, append-assoc}
+use Prim.Native.Nat.{ℕ, zero, suc, _≤_}
+use native.Mathlib.Omega.{arith}
+use lib.ListN.{length}
+use Rattle.star_lex.specs.Tokens.{Token, Placed, Each}
+use Rattle.star_lex.specs.Split.{tokensOf}
+use Rattle.star_lex.specs.Split as Split
+use Rattle.star_lex.specs.Plain.{plainOf}
+use Rattle.star_lex.specs.WellFormed.{WellFormed}
+use Rattle.star_lex.proofs.Each.{each-append}
+use Rattle.star_lex.proofs.FreshName.{fresh-name-of}
+use Rattle.star_lex.proofs.PlainSplit.{lex-plain}
+use Rattle.star_grammar.specs.Tree.{File, fileYield, FileWhole}
+use Rattle.star_grammar.specs.Tables.{Rows, noRows}
+use Rattle.star_grammar.specs.Machine.{State, start, within, named, header, body, go, walk, good, run}
+use Rattle.star_grammar.specs.Rest.{zeroWord, ending, completion}
+use Rattle.star_grammar.proofs.Alive.{alive, each-ending}
+use Rattle.star_grammar.proofs.Formed.{each-fixed, formed-completion}
+use Rattle.star_grammar.proofs.Walking.{Walks, walks-first, good-walks}
+use Rattle.star_unique.specs.Repeat.{nothing}
+use Rattle.star_unique.proofs.Clean.{Clean, clean-append}
+use Rattle.star_unique.proofs.Names.{namesIn, names-count}
+use Rattle.star_unique.proofs.Fresh.{Quiet, quiet-stop, quiet-end, quiet-after, fresh-after}
+use Rattle.star_read.specs.Read.{tokensOnly}
+use Rattle.star_read.specs.Demands.{Begins, BeginsShape}
+use Rattle.star_read.proofs.Readings.{yield-run, reading-run, reading-clean, tree-reading}
+
+-- a row that begins what a run accepts
+run-first : (limit : ℕ) (p rest ts : List Token) (rows : Rows) → ts ≡ p ++ rest → run limit start ts noRows ≡ good rows → Walks limit start p noRows
+run-first limit p rest ts rows e g = walks-first limit p rest start noRows (rw e at (good-walks limit ts start noRows rows g))
+
+pub begins-walks : (p : List Token) → Begins p → Walks 8 start p noRows
+begins-walks p b = run-first 8 p (b .rest) (tokensOnly (b .tokens)) _ (b .starts) (reading-run (tokensOnly (b .tokens)) (b .reading))
+
+pub begins-clean : (p : List Token) → Begins p → Clean nothing p
+begins-clean p b = clean-append nothing p (b .rest) .0 (rw (b .starts) at (reading-clean (tokensOnly (b .tokens)) (b .reading))) .0
+
+pub shape-walks : (limit : ℕ) (p : List Token) → BeginsShape limit p → Walks limit start p noRows
+shape-walks limit p b = run-first limit p (b .rest) (tokensOnly (b .tokens)) _ (b .starts) (yield-run limit (b .tree) _ (b .yield) (b .whole))
+
+-- a first part of a row that begins a file
+pub begins-first : (p q : List Token) → Begins (p ++ q) → Begins p
+begins-first p q b = record {
+  file = b .file;
+  tokens = b .tokens;
+  splits = b .splits;
+  reading = b .reading;
+  rest = q ++ b .rest;
+  starts = b .starts ∙ append-assoc p q (b .rest);
+}
+
+quiet-zero : Quiet zeroWord
+unfolding zeroWord
+quiet-zero = omega arith
+
+quiet-ending : (st : State) → Each Quiet (ending st)
+quiet-ending = each-ending Quiet quiet-zero quiet-stop quiet-end
+
+-- what completes a file repeats nothing, where its name is new
+clean-completion : (p : List Token) (st : State) (x : Token) → Clean nothing p → x .kind ≡ 6 → (List·Memᴰ (x .content) (namesIn p) → ⊥)
+    → Clean nothing (p ++ completion st x)
+clean-completion p start x c k n = quiet-after nothing p (ending start) c (quiet-ending start)
+clean-completion p (within w) x c k n = quiet-after nothing p (ending (within w)) c (quiet-ending (within w))
+clean-completion p (named w) x c k n = quiet-after nothing p (ending (named w)) c (quiet-ending (named w))
+clean-completion p (header w first before zero s) x c k n =
+    fresh-after p [] (ending (header w first before zero s)) x c k n tt (quiet-ending (header w first before zero s))
+clean-completion p (header w first before (suc m) s) x c k n =
+    quiet-after nothing p (ending (header w first before (suc m) s)) c (quiet-ending (header w first before (suc m) s))
+clean-completion p (body w outer l inner f) x c k n =
+    quiet-after nothing p (ending (body w outer l inner f)) c (quiet-ending (body w outer l inner f))
+
+-- a row with its completion
+record Completed (limit : ℕ) (p : List Token) (st : State) (x : Token) : Type 0 where
+  tokens : List Placed
+  splits : tokensOf (plainOf (p ++ completion st x)) ≡ Split.accepted tokens
+  are : tokensOnly tokens ≡ p ++ completion st x
+  tree : File
+  yield : fileYield tree ≡ tokensOnly tokens
+  whole : FileWhole limit tree
+
+module _ (limit : ℕ) (least : 1 ≤ limit) (p : List Token) (h : Each WellFormed p) (st : State) (r : Rows) (e : walk limit start p noRows ≡ go st r) where
+  completed : (x : List ℕ) → WellFormed (record { kind = 6; content = x }) → Completed limit p st (record { kind = 6; content = x })
+  completed x w =
+      let t : Token = record { kind = 6; content = x } in
+      let s : (ps : List Placed) × (tokensOf (plainOf (p ++ completion st t)) ≡ Split.accepted ps) × (tokensOnly ps ≡ p ++ completion st t)
+      = lex-plain (p ++ completion st t) (each-append WellFormed p (completion st t) .1 (h, formed-completion st t w)) in
+      let a : (f : File) × (fileYield f ≡ p ++ completion st t) × FileWhole limit f
+      = alive limit least p (each-fixed p h) st r e t (record { kind6 = refl }) in
+      record { tokens = s .0; splits = s .1; are = s .2; tree = a .0; yield = a .1 ∙ sym (s .2); whole = a .2 }
+
+pub walks-shape : (limit : ℕ) → 1 ≤ limit → (p : List Token) → Each WellFormed p → Walks limit start p noRows → BeginsShape limit p
+walks-shape limit least p h k =
+    let n : (x : List ℕ) × WellFormed (record { kind = 6; content = x }) × (List·Memᴰ x [] → ⊥) = fresh-name-of 1 [] (omega arith) (omega arith) (omega arith) in
+    let t : Token = record { kind = 6; content = n .0 } in
+    let c : Completed limit p (k .0) t = completed limit least p h (k .0) (k .1) (k .2) (n .0) (n .1) in
+    record {
+      file = plainOf (p ++ completion (k .0) t);
+      tokens = c .tokens;
+      splits = c .splits;
+      tree = c .tree;
+      yield = c .yield;
+      whole = c .whole;
+      rest = completion (k .0) t;
+      starts = c .are;
+    }
+
+pub walks-begins : (p : List Token) → Each WellFormed p → length p ≤ 1048576 → Walks 8 start p noRows → Clean nothing p → Begins p
+walks-begins p h l k c =
+    let n : (x : List ℕ) × WellFormed (record { kind = 6; content = x }) × (List·Memᴰ x (namesIn p) → ⊥)
+    = fresh-name-of 21 (namesIn p) (omega arith) (omega arith) (omega (arith, names-count p)) in
+    let t : Token = record { kind = 6; content = n .0 } in
+    let d : Completed 8 p (k .0) t = completed 8 (omega arith) p h (k .0) (k .1) (k .2) (n .0) (n .1) in
+    record {
+      file = plainOf (p ++ completion (k .0) t);
+      tokens = d .tokens;
+      splits = d .splits;
+      reading = tree-reading (tokensOnly (d .tokens)) (d .tree) (d .yield) (d .whole) (rw (d .are) (clean-completion p (k .0) t c refl (n .2)));
+      rest = completion (k .0) t;
+      starts = d .are;
+    }

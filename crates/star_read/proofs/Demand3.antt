@@ -1,0 +1,88 @@
+-- Demand 3: a file is accepted exactly when it has a reading, which is the only one and gives the rows; a refused one is refused at the first
+-- token that, with those before it, begins no file with a reading, or at its end. The machine takes a row of tokens as far as the row begins
+-- a file.
+use mathlib.Core.Path.{_≡_, refl, sym, ap, _∙_}
+use mathlib.Core.List.{List, [], _∷_, append-nil}
+use Prim.Native.Nat.{ℕ}
+use native.Mathlib.Omega.{arith}
+use borrow.Author.Tests.{le-ltb}
+use lib.ListN.{length, length-map}
+use Rattle.star_lex.specs.Tokens.{Placed}
+use Rattle.star_lex.specs.Split.{Split, tokensOf}
+use Rattle.star_lex.specs.Split as Split
+use Rattle.star_lex.specs.Found.{tokensIn}
+use Rattle.star_lex.proofs.Cases.{impossible}
+use Rattle.star_lex.proofs.WellFormed.{split-well-formed}
+use Rattle.star_grammar.specs.Tables.{Rows, noRows, rowsOf}
+use Rattle.star_grammar.specs.Reading.{Reading}
+use Rattle.star_grammar.specs.Machine.{start, good, run}
+use Rattle.star_grammar.proofs.Unambiguous.{unambiguous}
+use Rattle.star_grammar.proofs.Walking.{walks-first}
+use Rattle.star_unique.specs.Repeat.{nothing}
+use Rattle.star_unique.proofs.Clean.{Clean, clean-repeat}
+use Rattle.star_read.specs.Read.{Outcome, refused, accepted, Sizes, tokensOnly, decide, grammarOf, fitting, after, readOf}
+use Rattle.star_read.specs.Demands.{Fair, FirstBad, AcceptedExactly, OneReading, RowsOfReading, PlaceOfRefusal}
+use Rattle.star_read.proofs.Readings.{reading-run, reading-clean, run-reading}
+use Rattle.star_read.proofs.Verdict.{Verdict, verdict}
+use Rattle.star_read.proofs.Fitting.{refused≢accepted, fair-read, tokens-accepted, room-fits, fits-accepted}
+use Rattle.star_read.proofs.FairFile.{taken-begins, halted-begins, part-begins, accepted-fits}
+
+-- a row that the grammar accepts
+accepted-verdict : (ps qs : List Placed) (size : ℕ) (rows : Rows) (o : Outcome) → Verdict ps size o → o ≡ accepted qs rows
+    → (ps ≡ qs) × (run 8 start (tokensOnly ps) noRows ≡ good rows) × Clean nothing (tokensOnly ps)
+accepted-verdict ps qs size rows o (Verdict.reads u e c) q = ((cc), e ∙ ap good (let k : u ≡ rows = cc in k), c)
+accepted-verdict ps qs size rows o (Verdict.repeats place p t q e l c w k) d = impossible cc
+accepted-verdict ps qs size rows o (Verdict.halts n place p t q e l c st r w k) d = impossible cc
+accepted-verdict ps qs size rows o (Verdict.ends n place i l c st r w k) d = impossible cc
+
+-- a reading makes the grammar accept
+reading-accepted : (ps : List Placed) (size : ℕ) (r : Reading (tokensOnly ps)) → grammarOf size ps ≡ accepted ps (rowsOf (r .tree))
+unfolding grammarOf decide
+reading-accepted ps size r =
+    rw (reading-run (tokensOnly ps) r, clean-repeat nothing (tokensOnly ps) (reading-clean (tokensOnly ps) r), length-map, le-ltb (length ps) (length ps) (omega arith))
+
+pub one-reading : OneReading
+one-reading ts r s = unambiguous 8 (r .tree) (s .tree) (r .whole) (s .whole) (r .yield ∙ sym (s .yield))
+
+rows-after : (file : List ℕ) (words : Sizes) (ps : List Placed) (rows : Rows) (s : Split) → tokensIn file (words .tokens) ≡ s
+    → after (length file) words s ≡ accepted ps rows
+    → (tokensOf file ≡ Split.accepted ps) × (r : Reading (tokensOnly ps)) × (rows ≡ rowsOf (r .tree))
+unfolding after
+rows-after file words ps rows (Split.refused n place) d e = absurd (refused≢accepted n place ps rows e)
+rows-after file words ps rows (Split.accepted qs) d e =
+    let v : (qs ≡ ps) × (run 8 start (tokensOnly qs) noRows ≡ good rows) × Clean nothing (tokensOnly qs)
+    = accepted-verdict qs ps (length file) rows _ (verdict qs (length file)) (fits-accepted words _ ps rows e) in
+    let s : tokensOf file ≡ Split.accepted qs = tokens-accepted file (words .tokens) qs d in
+    let r : (r : Reading (tokensOnly qs)) × (rows ≡ rowsOf (r .tree)) = run-reading (tokensOnly qs) rows (split-well-formed file qs s) (v .1) (v .2) in
+    rw (← (v .0)) (s, r .0, r .1)
+
+pub rows-of-reading : RowsOfReading
+unfolding readOf
+rows-of-reading file words ps rows e = rows-after file words ps rows _ refl e
+
+pub accepted-exactly : AcceptedExactly
+accepted-exactly file words ps f = (
+  λ a. rows-of-reading file words ps (a .0) (a .1) .1,
+  λ r. (rowsOf (r .tree), fair-read file words ps f ∙ ap (fitting words) (reading-accepted ps (length file) r) ∙ room-fits words ps (rowsOf (r .tree)) (f .rooms r)),
+)
+
+-- the verdict of a refused file tells its first bad token
+module _ (file : List ℕ) (words : Sizes) (ps : List Placed) (f : Fair file words ps) where
+  refused-place : (n place : ℕ) (o : Outcome) → Verdict ps (length file) o → fitting words o ≡ refused n place → FirstBad file ps place
+  unfolding fitting
+  refused-place n place o (Verdict.reads rows e c) d = absurd (refused≢accepted n place ps rows (sym d ∙ accepted-fits file words ps f rows e c))
+  refused-place n place o (Verdict.repeats i p t q e l c w k) d =
+      FirstBad.token p t q e (let h : i ≡ place = cc in sym h ∙ l)
+      (part-begins file words ps f p (t ∷ q) e (walks-first 8 (tokensOnly p) (t .token ∷ []) start noRows w) c) (taken-begins p t k)
+  refused-place n place o (Verdict.halts m i p t q e l c st r w k) d =
+      FirstBad.token p t q e (let h : i ≡ place = cc in sym h ∙ l) (part-begins file words ps f p (t ∷ q) e (st, r, w) c) (halted-begins m p t st r w k)
+  refused-place n place o (Verdict.ends m i j l c st r w k) d =
+      FirstBad.end (let h : i ≡ place = cc in sym h ∙ l) (part-begins file words ps f ps [] (sym (append-nil ps)) (st, r, w) c)
+
+pub place-of-refusal : PlaceOfRefusal
+place-of-refusal file words ps f n place e =
+    refused-place file words ps f n place (grammarOf (length file) ps) (verdict ps (length file)) (sym (fair-read file words ps f) ∙ e)
+
+-- demand 3 for reading
+pub demand-3 : AcceptedExactly × OneReading × RowsOfReading × PlaceOfRefusal
+demand-3 = (accepted-exactly, one-reading, rows-of-reading, place-of-refusal)

@@ -1,0 +1,55 @@
+-- A file within the limits: every first part of its tokens that the machine takes and that repeats nothing begins a file, and its tables have room
+-- for what the grammar accepts. With a token that is taken or refused a part begins none.
+use mathlib.Core.Path.{_≡_, ap}
+use mathlib.Core.Bool.{true}
+use mathlib.Core.List.{List, [], _∷_, _++_, map-append}
+use Prim.Native.Nat.{ℕ, _≤_}
+use native.Mathlib.Omega.{arith}
+use lib.ListN.{length, length-append, length-map}
+use Rattle.star_lex.specs.Tokens.{Placed, Each}
+use Rattle.star_lex.specs.WellFormed.{WellFormed}
+use Rattle.star_lex.proofs.Each.{each-append}
+use Rattle.star_lex.proofs.Parts.{split-count}
+use Rattle.star_lex.proofs.WellFormed.{split-well-formed}
+use Rattle.star_grammar.specs.Tables.{Rows, noRows, rowsOf}
+use Rattle.star_grammar.specs.Reading.{Reading}
+use Rattle.star_grammar.specs.Machine.{sortOf, State, start, go, refuse, step, good, run, walk}
+use Rattle.star_grammar.proofs.Walking.{Walks, halted}
+use Rattle.star_unique.specs.Repeat.{nothing, isTaken}
+use Rattle.star_unique.specs.Seen.{takesAll}
+use Rattle.star_unique.proofs.Clean.{Clean}
+use Rattle.star_unique.proofs.First.{taken-unclean}
+use Rattle.star_read.specs.Read.{accepted, Sizes, tokensOnly, fitting}
+use Rattle.star_read.specs.Demands.{Begins, Fair}
+use Rattle.star_read.proofs.Readings.{run-reading}
+use Rattle.star_read.proofs.Begin.{begins-walks, begins-clean, walks-begins}
+use Rattle.star_read.proofs.Fitting.{room-fits}
+
+-- with a token that is taken, or that a step refuses, no file begins
+pub taken-begins : (p : List Placed) (t : Placed) → isTaken (takesAll nothing (tokensOnly p)) (t .token) ≡ true → Begins (tokensOnly (p ++ (t ∷ []))) → ⊥
+taken-begins p t e b = taken-unclean nothing (tokensOnly p) (t .token) [] e (rw map-append at (begins-clean (tokensOnly (p ++ (t ∷ []))) b))
+
+pub halted-begins : (n : ℕ) (p : List Placed) (t : Placed) (st : State) (r : Rows) → walk 8 start (tokensOnly p) noRows ≡ go st r
+    → step 8 st (sortOf (t .token .kind)) r ≡ refuse n → Begins (tokensOnly (p ++ (t ∷ []))) → ⊥
+halted-begins n p t st r w k b =
+    halted 8 start st (tokensOnly p) (t .token) noRows r n w k (rw map-append at (begins-walks (tokensOnly (p ++ (t ∷ []))) b))
+
+-- a first part of the tokens of a file
+module _ (file : List ℕ) (words : Sizes) (ps : List Placed) (f : Fair file words ps) where
+  pub part-formed : (p q : List Placed) → ps ≡ p ++ q → Each WellFormed (tokensOnly p)
+  part-formed p q e =
+      each-append WellFormed (tokensOnly p) (tokensOnly q) .0 (rw (e, map-append) at (split-well-formed file ps (f .splits))) .0
+
+  part-small : (p q : List Placed) → ps ≡ p ++ q → length (tokensOnly p) ≤ 1048576
+  part-small p q e =
+      rw length-map (omega (arith, f .small, split-count file ps (f .splits), ap length e, length-append p q))
+
+  pub part-begins : (p q : List Placed) → ps ≡ p ++ q → Walks 8 start (tokensOnly p) noRows → Clean nothing (tokensOnly p) → Begins (tokensOnly p)
+  part-begins p q e = walks-begins (tokensOnly p) (part-formed p q e) (part-small p q e)
+
+  -- what the grammar accepts has room
+  pub accepted-fits : (rows : Rows) → run 8 start (tokensOnly ps) noRows ≡ good rows → Clean nothing (tokensOnly ps)
+      → fitting words (accepted ps rows) ≡ accepted ps rows
+  accepted-fits rows e c =
+      let r : (r : Reading (tokensOnly ps)) × (rows ≡ rowsOf (r .tree)) = run-reading (tokensOnly ps) rows (split-well-formed file ps (f .splits)) e c in
+      room-fits words ps rows (rw (r .1) (f .rooms (r .0)))

@@ -1,0 +1,57 @@
+-- What reading gives, from the tokens on: where the file splits and table 1 has room, it is what the grammar decides, unless a later table
+-- lacks room for the rows.
+use mathlib.Core.Path.{_≡_}
+use mathlib.Core.Bool.{Bool, true, false, cond}
+use mathlib.Core.List.{List}
+use Prim.Native.Nat.{ℕ, _*_}
+use borrow.Author.Tests.{le-leb, le-ltb}
+use lib.Dec.{leb, ltb}
+use lib.ListN.{length}
+use Rattle.star_lex.specs.Tokens.{Placed}
+use Rattle.star_lex.specs.Split.{Split, tokensOf}
+use Rattle.star_lex.specs.Split as Split
+use Rattle.star_lex.specs.Found.{tokensIn}
+use Rattle.star_lex.specs.Found as Found
+use Rattle.star_lex.proofs.Cases.{impossible, cond-cases}
+use Rattle.star_grammar.specs.Tables.{Rows}
+use Rattle.star_read.specs.Read.{Outcome, refused, accepted, Sizes, grammarOf, fitting, after, readOf}
+use Rattle.star_read.specs.Demands.{Room, Fair}
+
+pub refused≢accepted : (n place : ℕ) (ps : List Placed) (rows : Rows) → refused n place ≡ accepted ps rows → ⊥
+refused≢accepted n place ps rows e = impossible cc
+
+pub fair-read : (file : List ℕ) (words : Sizes) (ps : List Placed) → Fair file words ps
+    → readOf file words ≡ fitting words (grammarOf (length file) ps)
+unfolding readOf after tokensIn Found.fitting
+fair-read file words ps f =
+    rw (le-leb (length file) 1048576 (f .small), f .splits, le-leb (length ps * 3) (words .tokens) (f .room))
+
+-- tokens that fit are those of the file
+pub tokens-accepted : (file : List ℕ) (words : ℕ) (ps : List Placed) → tokensIn file words ≡ Split.accepted ps → tokensOf file ≡ Split.accepted ps
+unfolding tokensIn Found.fitting
+tokens-accepted file words ps e =
+    cond-cases (leb (length file) 1048576) _ _ (Split.accepted ps) e (λ d. fits (tokensOf file)) (λ d h. impossible cc)
+  where
+    fits : (s : Split) → Found.fitting words s ≡ Split.accepted ps → s ≡ Split.accepted ps
+    fits (Split.refused n place) h = impossible cc
+    fits (Split.accepted qs) h = cond-cases (leb (length qs * 3) words) _ _ (Split.accepted ps) h (λ d k. k) (λ d k. impossible cc)
+
+pub room-fits : (words : Sizes) (ps : List Placed) (rows : Rows) → Room words rows → fitting words (accepted ps rows) ≡ accepted ps rows
+unfolding fitting
+room-fits words ps rows r =
+    rw (le-ltb _ _ (r .sets), le-ltb _ _ (r .names), le-ltb _ _ (r .packets), le-ltb _ _ (r .values))
+
+past-refused : (b : Bool) (n place : ℕ) (o : Outcome) (ps : List Placed) (rows : Rows) → cond b (refused n place) o ≡ accepted ps rows
+    → o ≡ accepted ps rows
+past-refused true n place o ps rows e = impossible cc
+past-refused false n place o ps rows e = e
+
+-- what is accepted in the end was accepted by the grammar
+pub fits-accepted : (words : Sizes) (o : Outcome) (ps : List Placed) (rows : Rows) → fitting words o ≡ accepted ps rows → o ≡ accepted ps rows
+unfolding fitting
+fits-accepted words (refused n place) ps rows e = e
+fits-accepted words (accepted qs u) ps rows e =
+    past-refused (ltb (words .values) (length (u .values) * 3)) 7 5 _ ps rows
+    (past-refused (ltb (words .packets) (length (u .packets) * 3)) 7 4 _ ps rows
+    (past-refused (ltb (words .names) (length (u .names) * 4)) 7 3 _ ps rows
+    (past-refused (ltb (words .sets) (length (u .sets) * 3)) 7 2 _ ps rows e)))

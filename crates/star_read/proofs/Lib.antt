@@ -1,0 +1,10 @@
+pub mod Readings
+pub mod Begin
+pub mod Verdict
+pub mod Fitting
+pub mod FairFile
+pub mod Demand3
+pub mod Since
+pub mod Numbers
+pub mod RefusalNumber
+pub mod Known

@@ -1,0 +1,140 @@
+-- What the grammar decides, with what the machine did: it accepts a row, or stops at the first token that repeats, at one that a step refuses,
+-- or at the end. Of a repeat and a refused step the one that comes first decides.
+use mathlib.Core.Path.{_≡_, refl, sym, ap, _∙_}
+use mathlib.Core.Bool.{Bool, true, false, cond}
+use mathlib.Core.List.{List, [], _∷_, _++_, append-nil, append-assoc}
+use Prim.Native.Nat.{ℕ, _≤_, _<_}
+use native.Mathlib.Omega.{arith}
+use borrow.Author.Tests.{ltb-true, ltb-false}
+use lib.Dec.{ltb}
+use lib.ListN.{length, length-map}
+use lib.Seq.{append-snoc}
+use Rattle.star_lex.specs.Tokens.{Token, Placed}
+use Rattle.star_lex.proofs.Cases.{impossible}
+use Rattle.star_grammar.specs.Tables.{Rows, noRows}
+use Rattle.star_grammar.specs.Machine.{sortOf, State, start, go, refuse, step, Run, bad, good, endRun, run, walk}
+use Rattle.star_grammar.proofs.Passing.{walk-length, end-passes}
+use Rattle.star_grammar.proofs.Walking.{Walks, walks-first, good-walks, Halts, bad-halts}
+use Rattle.star_unique.specs.Repeat.{nothing, isTaken, firstRepeat}
+use Rattle.star_unique.specs.Seen.{takesAll}
+use Rattle.star_unique.proofs.Clean.{Clean, repeat-after, unclean-repeat, repeat-before}
+use Rattle.star_unique.proofs.First.{FirstTaken, first-taken, clean-before}
+use Rattle.star_read.specs.Read.{Outcome, refused, accepted, tokensOnly, placeOf, decide, grammarOf}
+
+pub data Verdict (ps : List Placed) (size : ℕ) : Outcome → Type 0 where
+  reads : (rows : Rows) → run 8 start (tokensOnly ps) noRows ≡ good rows → Clean nothing (tokensOnly ps) → Verdict ps size (accepted ps rows)
+  repeats : (place : ℕ) (p : List Placed) (t : Placed) (q : List Placed) → ps ≡ p ++ (t ∷ q) → place ≡ t .at → Clean nothing (tokensOnly p)
+      → Walks 8 start (tokensOnly p ++ (t .token ∷ [])) noRows → isTaken (takesAll nothing (tokensOnly p)) (t .token) ≡ true
+      → Verdict ps size (refused 9 place)
+  halts : (n place : ℕ) (p : List Placed) (t : Placed) (q : List Placed) → ps ≡ p ++ (t ∷ q) → place ≡ t .at → Clean nothing (tokensOnly p)
+      → (st : State) (r : Rows) → walk 8 start (tokensOnly p) noRows ≡ go st r → step 8 st (sortOf (t .token .kind)) r ≡ refuse n
+      → Verdict ps size (refused n place)
+  ends : (n place i : ℕ) → place ≡ size → Clean nothing (tokensOnly ps)
+      → (st : State) (r : Rows) → walk 8 start (tokensOnly ps) noRows ≡ go st r → endRun st r ≡ bad n i → Verdict ps size (refused n place)
+
+place-at : (size : ℕ) (p : List Placed) (t : Placed) (q : List Placed) → placeOf size (p ++ (t ∷ q)) (length p) ≡ t .at
+unfolding placeOf
+place-at size [] t q = refl
+place-at size (x ∷ p) t q = place-at size p t q
+
+place-end : (size : ℕ) (ps : List Placed) → placeOf size ps (length ps) ≡ size
+unfolding placeOf
+place-end size [] = refl
+place-end size (x ∷ ps) = place-end size ps
+
+-- the token at a place of a row, with its offset
+record At (ps : List Placed) (a : List Token) (b : Token) : Type 0 where
+  before : List Placed
+  here : Placed
+  after : List Placed
+  is : ps ≡ before ++ (here ∷ after)
+  tokens : a ≡ tokensOnly before
+  token : b ≡ here .token
+
+at-later : (p : Placed) (ps : List Placed) (x : Token) (a : List Token) (b : Token) → x ≡ p .token → At ps a b → At (p ∷ ps) (x ∷ a) b
+at-later p ps x a b e k = record {
+  before = p ∷ k .before;
+  here = k .here;
+  after = k .after;
+  is = ap (λ xs. p ∷ xs) (k .is);
+  tokens = cc (k .tokens);
+  token = k .token;
+}
+
+token-at : (ps : List Placed) (a : List Token) (b : Token) (c : List Token) → tokensOnly ps ≡ a ++ (b ∷ c) → At ps a b
+token-at [] [] b c e = impossible cc
+token-at [] (x ∷ a) b c e = impossible cc
+token-at (p ∷ ps) [] b c e = record { before = []; here = p; after = ps; is = refl; tokens = refl; token = cc }
+token-at (p ∷ ps) (x ∷ a) b c e = at-later p ps x a b (cc) (token-at ps a b c (cc))
+
+module _ (ps : List Placed) (size : ℕ) where
+  at-place : (a : List Token) (b : Token) (k : At ps a b) (i : ℕ) → i ≡ length a → placeOf size ps i ≡ k .here .at
+  at-place a b k i e = rw (e, k .tokens, length-map, k .is) (place-at size (k .before) (k .here) (k .after))
+
+  -- the first token of a walk that repeats
+  verdict-taken : (p : List Token) → Walks 8 start p noRows → (f : FirstTaken nothing p) → At ps (f .before) (f .token) → (i : ℕ)
+      → i ≡ length (f .before) → Verdict ps size (refused 9 (placeOf size ps i))
+  verdict-taken p w f k i e =
+      Verdict.repeats (placeOf size ps i) (k .before) (k .here) (k .after) (k .is) (at-place (f .before) (f .token) k i e) (rw (k .tokens) at (f .clean))
+      (rw (k .tokens, k .token) at (walks-first 8 (f .before ++ (f .token ∷ [])) (f .after) start noRows
+      (rw (f .is ∙ sym (append-snoc (f .before) (f .token) (f .after))) at w)))
+      (rw (k .tokens, k .token) at (f .taken))
+
+  verdict-repeats : (p q : List Token) → tokensOnly ps ≡ p ++ q → Walks 8 start p noRows → firstRepeat nothing (tokensOnly ps) < length p
+      → Verdict ps size (refused 9 (placeOf size ps (firstRepeat nothing (tokensOnly ps))))
+  verdict-repeats p q e w h =
+      let same : firstRepeat nothing (tokensOnly ps) ≡ firstRepeat nothing (p ++ q) = ap (firstRepeat nothing) e in
+      let early : firstRepeat nothing p < length p = unclean-repeat nothing p (λ c. omega (arith, repeat-after nothing p q c)) in
+      let f : FirstTaken nothing p = first-taken nothing p early in
+      verdict-taken p w f
+      (token-at ps (f .before) (f .token) (f .after ++ q) (e ∙ ap (λ xs. xs ++ q) (f .is) ∙ append-assoc (f .before) (f .token ∷ f .after) q))
+      (firstRepeat nothing (tokensOnly ps)) (same ∙ repeat-before nothing p q early ∙ f .place)
+
+  verdict-clean : (p q : List Token) → tokensOnly ps ≡ p ++ q → length p ≤ firstRepeat nothing (tokensOnly ps) → Clean nothing p
+  verdict-clean p q e h = clean-before nothing p q (rw e at h)
+
+  verdict-good : (rows : Rows) → run 8 start (tokensOnly ps) noRows ≡ good rows
+      → Verdict ps size (decide size ps (firstRepeat nothing (tokensOnly ps)) (good rows))
+  unfolding decide
+  verdict-good rows e = by (ltb (firstRepeat nothing (tokensOnly ps)) (length ps)) refl
+    where
+      by : (b : Bool) → ltb (firstRepeat nothing (tokensOnly ps)) (length ps) ≡ b
+          → Verdict ps size (cond b (refused 9 (placeOf size ps (firstRepeat nothing (tokensOnly ps)))) (accepted ps rows))
+      by true d =
+          verdict-repeats (tokensOnly ps) [] (sym (append-nil (tokensOnly ps))) (good-walks 8 (tokensOnly ps) start noRows rows e)
+          (rw length-map (ltb-true _ _ d))
+      by false d =
+          Verdict.reads rows e (verdict-clean (tokensOnly ps) [] (sym (append-nil (tokensOnly ps))) (rw length-map (ltb-false _ _ d)))
+
+  verdict-bad : (n i : ℕ) → Halts 8 start (tokensOnly ps) noRows n i
+      → Verdict ps size (decide size ps (firstRepeat nothing (tokensOnly ps)) (bad n i))
+  unfolding decide
+  verdict-bad n i (Halts.token p t q s u e w f c) = by (ltb (firstRepeat nothing (tokensOnly ps)) i) refl (token-at ps p t q e)
+    where
+      by : (b : Bool) → ltb (firstRepeat nothing (tokensOnly ps)) i ≡ b → At ps p t
+          → Verdict ps size (cond b (refused 9 (placeOf size ps (firstRepeat nothing (tokensOnly ps)))) (refused n (placeOf size ps i)))
+      by true d k = verdict-repeats p (t ∷ q) e (s, u, w) (omega (arith, ltb-true, walk-length 8 s p u w))
+      by false d k =
+          Verdict.halts n (placeOf size ps i) (k .before) (k .here) (k .after) (k .is) (at-place p t k i (c ∙ walk-length 8 s p u w))
+          (rw (k .tokens) at (verdict-clean p (t ∷ q) e (omega (arith, ltb-false, walk-length 8 s p u w)))) s u
+          (rw (k .tokens) at w) (rw (k .token) at f)
+  verdict-bad n i (Halts.end s u w f) = by (ltb (firstRepeat nothing (tokensOnly ps)) i) refl
+    where
+      whole : i ≡ length ps
+      whole = end-passes s u n i f ∙ walk-length 8 s (tokensOnly ps) u w ∙ length-map ps _
+
+      by : (b : Bool) → ltb (firstRepeat nothing (tokensOnly ps)) i ≡ b
+          → Verdict ps size (cond b (refused 9 (placeOf size ps (firstRepeat nothing (tokensOnly ps)))) (refused n (placeOf size ps i)))
+      by true d =
+          verdict-repeats (tokensOnly ps) [] (sym (append-nil (tokensOnly ps))) (s, u, w) (rw length-map (omega (arith, ltb-true, whole)))
+      by false d =
+          Verdict.ends n (placeOf size ps i) i (rw whole (place-end size ps))
+          (verdict-clean (tokensOnly ps) [] (sym (append-nil (tokensOnly ps))) (rw length-map (omega (arith, ltb-false, whole)))) s u w f
+
+  pub verdict : Verdict ps size (grammarOf size ps)
+  unfolding grammarOf
+  verdict = by (run 8 start (tokensOnly ps) noRows) refl
+    where
+      by : (x : Run) → run 8 start (tokensOnly ps) noRows ≡ x → Verdict ps size (decide size ps (firstRepeat nothing (tokensOnly ps)) x)
+      by (bad n i) e = verdict-bad n i (bad-halts 8 (tokensOnly ps) start noRows n i e)
+      by (good rows) e = verdict-good rows e
