@@ -39,7 +39,7 @@ any-packet-step limit w (o ∷ outer) n first k k′ ls Sort.loop r = refl
 any-packet-step limit w (o ∷ outer) n first k k′ ls Sort.stop r = refl
 any-packet-step limit w (o ∷ outer) n first k k′ ls Sort.name r = refl
 
-any-packet : (limit : ℕ) (w : Where) (outer : List Level) (n first k k′ : ℕ) (ls : List ℕ) (ts : List Token) (r : Rows)
+pub any-packet : (limit : ℕ) (w : Where) (outer : List Level) (n first k k′ : ℕ) (ls : List ℕ) (ts : List Token) (r : Rows)
     → run limit (body w outer (level n first k) ls 0) ts r ≡ run limit (body w outer (level n first k′) ls 0) ts r
 unfolding run endRun endBody
 any-packet limit w outer n first k k′ ls [] r = refl
@@ -172,7 +172,7 @@ pub before-reverse : (before : List ℕ) (n : ℕ) (ms : List ℕ) → reverseAu
 before-reverse before n [] = refl
 before-reverse before n (m ∷ ms) = before-reverse (n ∷ before) m ms
 
-step-deeper : (limit : ℕ) (w : Where) (first : ℕ) (before : List ℕ) (n : ℕ) (r : Rows) → 1 ≤ n → suc (length before) < limit
+pub step-deeper : (limit : ℕ) (w : Where) (first : ℕ) (before : List ℕ) (n : ℕ) (r : Rows) → 1 ≤ n → suc (length before) < limit
     → step limit (header w first before n 0) Sort.loop r ≡ go (header w first (n ∷ before) 0 0) (pass r)
 unfolding step headerStep
 step-deeper limit w first before n r h l = rw (lt-ltb 0 n h, lt-ltb (suc (length before)) limit l)
@@ -207,7 +207,7 @@ stops-run limit w first before n s (suc k) rest r h l =
     ∙ rw (suc-add s k, add-suc s k)
 
 -- the first value of a loop begins level 1
-step-begin : (limit : ℕ) (w : Where) (first : ℕ) (before : List ℕ) (n s m : ℕ) (ls : List ℕ) (r : Rows) → 1 ≤ n
+pub step-begin : (limit : ℕ) (w : Where) (first : ℕ) (before : List ℕ) (n s m : ℕ) (ls : List ℕ) (r : Rows) → 1 ≤ n
     → reverseAux before (n ∷ []) ≡ m ∷ ls
     → step limit (header w first before n s) Sort.value r ≡ step limit (body w [] (level m first 0) ls 0) Sort.value r
 unfolding step headerStep begin bodyStep
@@ -263,13 +263,13 @@ after-loop limit w l ls [] r h = refl
 after-loop limit w l ls (t ∷ ts) r h =
     run-alike limit (body w [] l ls 0) (within w) t ts r (after-loop-step limit w l ls (sortOf (t .kind)) r h)
 
-step-loop : (limit : ℕ) (w : Where) (r : Rows)
+pub step-loop : (limit : ℕ) (w : Where) (r : Rows)
     → step limit (within w) Sort.loop r ≡ go (header w (next (r .names)) [] 0 0) (openLoop r)
 unfolding step between
 step-loop limit (inBlock s) r = refl
 step-loop limit (inFrame b s) r = refl
 
-step-item : (limit : ℕ) (w : Where) (r : Rows) → step limit (within w) Sort.name r ≡ go (named w) (putName (setOf w) 0 0 r)
+pub step-item : (limit : ℕ) (w : Where) (r : Rows) → step limit (within w) Sort.name r ≡ go (named w) (putName (setOf w) 0 0 r)
 unfolding step between setOf
 step-item limit (inBlock s) r = refl
 step-item limit (inFrame b s) r = refl

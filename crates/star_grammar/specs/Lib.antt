@@ -3,3 +3,5 @@ pub mod Tables
 pub mod Machine
 pub mod Rest
 pub mod Reading
+pub mod Parsed
+pub mod Reader

@@ -1,11 +1,11 @@
 -- A word of a table that holds rows is the word of its row: the rows before it are all of one width, and it comes before the words after the
--- last row.
+-- last row. Its words are no fewer than those of its rows.
 use mathlib.Core.Path.{_≡_, _∙_, ap}
 use mathlib.Core.List.{List, [], _∷_, _++_, flatMap}
-use Prim.Native.Nat.{ℕ, zero, suc, _+_, _-_, _*_, _<_}
+use Prim.Native.Nat.{ℕ, zero, suc, _+_, _-_, _*_, _≤_, _<_}
 use native.Mathlib.Nat.{zero-mul, suc-mul, mul-le-mul-right}
 use native.Mathlib.Omega.{arith}
-use lib.ListN.{length, getD, replicate, List·getD-append}
+use lib.ListN.{length, getD, replicate, length-append, length-replicate, List·getD-append}
 use lib.Seq.{getD-append-add}
 use Rattle.star_rows.specs.Rows.{holding}
 use Rattle.star_rows.proofs.Stored.{flat-length}
@@ -29,3 +29,12 @@ module _ {ℓ} {A : Type ℓ} (width : ℕ) (row : A → List ℕ) (wide : (x : 
       List·getD-append (flatMap row xs) (replicate (words - length (flatMap row xs)) 0) 0 (n * width + k)
       (rw (flat-length width row wide (omega arith) xs) (omega (arith, mul-le-mul-right width h, suc-mul n width)))
       ∙ flat-word xs n k h j
+
+module _ {ℓ} {A : Type ℓ} (width : ℕ) (row : A → List ℕ) (wide : (x : A) → length (row x) ≡ width) (some : 0 < width) (xs : List A) (words : ℕ) where
+  pub length-holding : length xs * width ≤ words → length (holding row xs words) ≡ words
+  unfolding holding
+  length-holding h = simp (length-append, length-replicate, flat-length width row wide some) (omega arith)
+
+  pub holding-room : length xs * width ≤ length (holding row xs words)
+  unfolding holding
+  holding-room = simp (length-append, flat-length width row wide some) (omega arith)

@@ -15,7 +15,7 @@ use Rattle.star_unique.specs.Repeat.{Taken, takes}
 use Rattle.star_unique.specs.Seen.{takesAll}
 use Rattle.star_unique.proofs.Clean.{takes-next}
 
-each-at {ℓ} : {A : Type ℓ} (P : A → Type 0) (xs : List A) (n : ℕ) (d : A) → n < length xs → Each P xs → P (getD xs n d)
+pub each-at {ℓ} : {A : Type ℓ} (P : A → Type 0) (xs : List A) (n : ℕ) (d : A) → n < length xs → Each P xs → P (getD xs n d)
 each-at P [] n d h e = absurd (omega arith)
 each-at P (x ∷ xs) zero d h e = e .0
 each-at P (x ∷ xs) (suc n) d h e = each-at P xs n d (omega arith) (e .1)
