@@ -8,3 +8,6 @@ pub mod Since
 pub mod Numbers
 pub mod RefusalNumber
 pub mod Known
+pub mod Judging
+pub mod Settling
+pub mod Starting

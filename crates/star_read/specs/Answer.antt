@@ -1,12 +1,32 @@
 -- What reading answers and leaves in the lent tables: paper 01, "The five tables".
 use mathlib.Core.Path.{_≡_}
+use mathlib.Core.Bool.{cond}
 use mathlib.Core.List.{List}
-use Prim.Native.Nat.{ℕ}
+use Prim.Native.Nat.{ℕ, _*_}
+use lib.Dec.{ltb}
 use lib.ListN.{length, replicate}
-use Rattle.star_rows.specs.Rows.{holding}
+use Rattle.star_rows.specs.Rows.{holding, clearedFrom}
 use Rattle.star_lex.specs.Tokens.{tokenRow}
 use Rattle.star_grammar.specs.Tables.{setWords, nameWords, packetWords, valueWords}
 use Rattle.star_read.specs.Read.{Outcome, refused, accepted, Sizes}
+use Rattle.star_grammar.specs.Machine.{Run, bad, good}
+use Rattle.star_grammar.specs.Parsed.{FourTables}
+use Rattle.star_grammar.specs.declared.Parsed.{Parsed}
+use Rattle.star_read.specs.declared.Reading.{Reading}
+use Rattle.star_read.specs.declared.Judged.{Judged}
+
+-- refusal and place, both 0 when accepted, and the five row counts
+unfoldable pub answerOf : Outcome → Reading
+answerOf (refused n place) = record { refusal = n; place = place; tokens = 0; sets = 0; names = 0; packets = 0; values = 0 }
+answerOf (accepted ps rows) = record {
+  refusal = 0;
+  place = 0;
+  tokens = length ps;
+  sets = length (rows .sets);
+  names = length (rows .names);
+  packets = length (rows .packets);
+  values = length (rows .values);
+}
 
 -- the five tables
 pub record Tables : Type 0 where
@@ -28,6 +48,9 @@ sizes t = record {
   values = length (t .values);
 }
 
+abbrev pub words : (tokens sets names packets values : ℕ) → Sizes
+words tokens sets names packets values = record { tokens = tokens; sets = sets; names = names; packets = packets; values = values }
+
 -- words after the last row are 0; on a refusal every word of every table is 0
 unfoldable pub tablesOf : Outcome → Sizes → Tables
 tablesOf (refused n place) words = record {
@@ -44,3 +67,38 @@ tablesOf (accepted ps rows) words = record {
   packets = holding packetWords (rows .packets) (words .packets);
   values = holding valueWords (rows .values) (words .values);
 }
+
+-- what the grammar and the room decide: refusal and place, both 0 when accepted
+unfoldable pub judgedOf : Outcome → Judged
+judgedOf (refused n place) = record { refusal = n; place = place }
+judgedOf (accepted ps rows) = record { refusal = 0; place = 0 }
+
+-- an answer of the rows' reader to a run over so many tokens: refusal and how many tokens stand before the bad one, or the numbers of rows
+abbrev pub Ran : Run → ℕ → Parsed → Type 0
+Ran (bad n i) count r = (r .refusal ≡ n) × (r .tokens ≡ i)
+Ran (good rows) count r =
+    (r .refusal ≡ 0) × (r .tokens ≡ count) × (r .sets ≡ length (rows .sets)) × (r .names ≡ length (rows .names))
+    × (r .packets ≡ length (rows .packets)) × (r .values ≡ length (rows .values))
+
+-- 7 for tables 2 to 5 by their numbers of rows and words, the lowest first
+unfoldable pub roomOf : (sets names packets values setWords nameWords packetWords valueWords : ℕ) → Judged
+roomOf s n p v sw nw pw vw =
+    cond (ltb sw (s * 3)) (record { refusal = 7; place = 2 })
+    (cond (ltb nw (n * 4)) (record { refusal = 7; place = 3 })
+    (cond (ltb pw (p * 3)) (record { refusal = 7; place = 4 })
+    (cond (ltb vw (v * 3)) (record { refusal = 7; place = 5 }) (record { refusal = 0; place = 0 }))))
+
+-- the tables are left as the outcome says
+pub record Leaves (o : Outcome) (words : Sizes) (t : Tables) : Type 0 where
+  pub tokens : t .tokens ≡ tablesOf o words .tokens
+  pub sets : t .sets ≡ tablesOf o words .sets
+  pub names : t .names ≡ tablesOf o words .names
+  pub packets : t .packets ≡ tablesOf o words .packets
+  pub values : t .values ≡ tablesOf o words .values
+
+-- tables 2 to 5 are 0 behind their rows, and as they were before
+pub record ClearedBehind (rows : Parsed) (before after : FourTables) : Type 0 where
+  pub sets : after .sets ≡ clearedFrom (rows .sets * 3) (before .sets)
+  pub names : after .names ≡ clearedFrom (rows .names * 4) (before .names)
+  pub packets : after .packets ≡ clearedFrom (rows .packets * 3) (before .packets)
+  pub values : after .values ≡ clearedFrom (rows .values * 3) (before .values)

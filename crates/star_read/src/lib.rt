@@ -1,1 +1,242 @@
-// Reading a STAR File.
+// Reading a STAR File from lent bytes into five lent tables.
+ghost use mathlib.Core.Path.{_≡_};
+ghost use Prim.Native.Nat.{_≤_};
+ghost use lib.ListN.{length, replicate};
+ghost use Rattle.star_lex.specs.Split.{placed, tokensOf};
+ghost use Rattle.star_grammar.specs.Tables.{noRows};
+ghost use Rattle.star_grammar.specs.Machine.{run, start};
+ghost use Rattle.star_unique.specs.Holds.{Holds, fileTokens};
+ghost use Rattle.star_read.specs.Read.{refused, placeOf, fitting, grammarOf, readOf};
+ghost use Rattle.star_read.specs.Answer.{answerOf, tables, tablesOf, sizes, judgedOf, words, roomOf, Ran, Leaves, ClearedBehind};
+ghost use Rattle.star_grammar.specs.Parsed.{tables as four};
+use star_grammar::Parsed;
+
+// What reading answers: refusal and place, both 0 when accepted, and the number of rows of each table.
+pub struct Reading {
+    pub refusal: u32,
+    pub place: u32,
+    pub tokens: u32,
+    pub sets: u32,
+    pub names: u32,
+    pub packets: u32,
+    pub values: u32,
+}
+
+// A refusal and its place, both 0 where there is none.
+pub struct Judged {
+    pub refusal: u32,
+    pub place: u32,
+}
+
+// The first byte of the token that has so many before it, or the file's length.
+fn place_of(file: &[u8], tokens: &[u32], count: usize, before: usize) -> u32
+    requires { ⌜ Holds (now file) (now tokens) count ⌝ }
+    ensures { λ r. ⌜ r ≡ placeOf (length (now (file .entry))) (placed (tokensOf (now (file .entry)))) before ⌝ }
+{
+    if before < count {
+        let at = before * 3;
+        let kind = tokens[at];
+        tokens[at + 1] - star_lex::word::lead(kind) as u32
+    } else {
+        file.len() as u32
+    }
+}
+
+// Refusal 7 for the lowest table of 2 to 5 that is too short for its rows.
+fn room(rows: Parsed, sets: usize, names: usize, packets: usize, values: usize) -> Judged
+    ensures { λ r. ⌜ r ≡ roomOf (rows .sets) (rows .names) (rows .packets) (rows .values) sets names packets values ⌝ }
+{
+    if sets / 3 < rows.sets as usize {
+        return Judged {
+            refusal: 7,
+            place: 2,
+        };
+    }
+    if names / 4 < rows.names as usize {
+        return Judged {
+            refusal: 7,
+            place: 3,
+        };
+    }
+    if packets / 3 < rows.packets as usize {
+        return Judged {
+            refusal: 7,
+            place: 4,
+        };
+    }
+    if values / 3 < rows.values as usize {
+        return Judged {
+            refusal: 7,
+            place: 5,
+        };
+    }
+    Judged {
+        refusal: 0,
+        place: 0,
+    }
+}
+
+// What the grammar, names and codes, and the room of tables 2 to 5 decide.
+fn judge(
+    file: &[u8],
+    tokens: &[u32],
+    count: usize,
+    rows: Parsed,
+    sets: usize,
+    names: usize,
+    packets: usize,
+    values: usize,
+) -> Judged
+    requires { ⌜ Holds (now file) (now tokens) count ⌝ }
+    requires { ⌜ Ran (run 8 start (fileTokens (now file)) noRows) count rows ⌝ }
+    ensures { λ r. ⌜ r ≡ judgedOf (fitting (words (length (now (tokens .entry))) sets names packets values)
+        (grammarOf (length (now (file .entry))) (placed (tokensOf (now (file .entry)))))) ⌝ }
+{
+    let taken = star_unique::first_repeat(file, tokens, count);
+    if taken < rows.tokens {
+        return Judged {
+            refusal: 9,
+            place: place_of(file, tokens, count, taken),
+        };
+    }
+    if rows.refusal != 0 {
+        let before = rows.tokens;
+        return Judged {
+            refusal: rows.refusal,
+            place: place_of(file, tokens, count, before),
+        };
+    }
+    room(rows, sets, names, packets, values)
+}
+
+// A refusal: every word of every table is 0.
+fn refuse(
+    tokens: &mut [u32],
+    sets: &mut [u32],
+    names: &mut [u32],
+    packets: &mut [u32],
+    values: &mut [u32],
+    refusal: u32,
+    place: u32,
+) -> Reading
+    ensures { λ r. ⌜ r ≡ answerOf (refused refusal place) ⌝ }
+    ensures { λ _. ⌜ Leaves (refused refusal place)
+        (sizes (tables (now (tokens .entry)) (now (sets .entry)) (now (names .entry)) (now (packets .entry)) (now (values .entry))))
+        (tables (now (tokens .exit)) (now (sets .exit)) (now (names .exit)) (now (packets .exit)) (now (values .exit))) ⌝ }
+{
+    star_rows::clear_from(tokens, 0);
+    star_rows::clear_from(sets, 0);
+    star_rows::clear_from(names, 0);
+    star_rows::clear_from(packets, 0);
+    star_rows::clear_from(values, 0);
+    Reading {
+        refusal,
+        place,
+        tokens: 0,
+        sets: 0,
+        names: 0,
+        packets: 0,
+        values: 0,
+    }
+}
+
+// Clears tables 2 to 5 behind their rows.
+fn clear_behind(
+    sets: &mut [u32],
+    names: &mut [u32],
+    packets: &mut [u32],
+    values: &mut [u32],
+    rows: Parsed,
+)
+    ensures { λ _. ⌜ ClearedBehind rows (four (now (sets .entry)) (now (names .entry)) (now (packets .entry)) (now (values .entry)))
+        (four (now (sets .exit)) (now (names .exit)) (now (packets .exit)) (now (values .exit))) ⌝ }
+{
+    star_rows::clear_from(sets, rows.sets as usize * 3);
+    star_rows::clear_from(names, rows.names as usize * 4);
+    star_rows::clear_from(packets, rows.packets as usize * 3);
+    star_rows::clear_from(values, rows.values as usize * 3);
+}
+
+// Reads the rows of a file whose tokens table 1 holds.
+fn read_tables(
+    file: &[u8],
+    tokens: &mut [u32],
+    sets: &mut [u32],
+    names: &mut [u32],
+    packets: &mut [u32],
+    values: &mut [u32],
+    count: u32,
+) -> Reading
+    requires { ⌜ Holds (now file) (now tokens) count ⌝ }
+    ensures { λ r. ⌜ r ≡ answerOf (fitting (sizes (tables (now (tokens .entry)) (now (sets .entry)) (now (names .entry)) (now (packets .entry)) (now (values .entry))))
+        (grammarOf (length (now (file .entry))) (placed (tokensOf (now (file .entry)))))) ⌝ }
+    ensures { λ _. ⌜ Leaves (fitting (sizes (tables (now (tokens .entry)) (now (sets .entry)) (now (names .entry)) (now (packets .entry)) (now (values .entry))))
+        (grammarOf (length (now (file .entry))) (placed (tokensOf (now (file .entry))))))
+        (sizes (tables (now (tokens .entry)) (now (sets .entry)) (now (names .entry)) (now (packets .entry)) (now (values .entry))))
+        (tables (now (tokens .exit)) (now (sets .exit)) (now (names .exit)) (now (packets .exit)) (now (values .exit))) ⌝ }
+{
+    let n = count as usize;
+    let rows = star_grammar::read_rows(tokens, n, sets, names, packets, values);
+    let judged = judge(
+        file,
+        tokens,
+        n,
+        rows,
+        sets.len(),
+        names.len(),
+        packets.len(),
+        values.len(),
+    );
+    if judged.refusal != 0 {
+        return refuse(
+            tokens,
+            sets,
+            names,
+            packets,
+            values,
+            judged.refusal,
+            judged.place,
+        );
+    }
+    clear_behind(sets, names, packets, values, rows);
+    Reading {
+        refusal: 0,
+        place: 0,
+        tokens: count,
+        sets: rows.sets,
+        names: rows.names,
+        packets: rows.packets,
+        values: rows.values,
+    }
+}
+
+// Reads a file into the five tables. On a refusal the counts and every word of every table are 0.
+pub fn read(
+    file: &[u8],
+    tokens: &mut [u32],
+    sets: &mut [u32],
+    names: &mut [u32],
+    packets: &mut [u32],
+    values: &mut [u32],
+) -> Reading
+    ensures { λ r. ⌜ r ≡ answerOf (readOf (now (file .entry))
+        (sizes (tables (now (tokens .entry)) (now (sets .entry)) (now (names .entry)) (now (packets .entry)) (now (values .entry))))) ⌝ }
+    ensures { λ _. ⌜ Leaves (readOf (now (file .entry))
+        (sizes (tables (now (tokens .entry)) (now (sets .entry)) (now (names .entry)) (now (packets .entry)) (now (values .entry)))))
+        (sizes (tables (now (tokens .entry)) (now (sets .entry)) (now (names .entry)) (now (packets .entry)) (now (values .entry))))
+        (tables (now (tokens .exit)) (now (sets .exit)) (now (names .exit)) (now (packets .exit)) (now (values .exit))) ⌝ }
+{
+    let found = star_lex::read_tokens(file, tokens);
+    if found.refusal != 0 {
+        return refuse(
+            tokens,
+            sets,
+            names,
+            packets,
+            values,
+            found.refusal,
+            found.place,
+        );
+    }
+    read_tables(file, tokens, sets, names, packets, values, found.count)
+}

@@ -1,4 +1,5 @@
 -- `limit` meets its contract, by the test on the length.
+use native.Mathlib.Omega.{arith}
 use borrow.Author.Tests.{le-leb, lt-leb}
 use Rattle.star_lex.specs.Split.{limited}
 use Rattle.star_lex.specs.Found.{kindOf}
@@ -7,11 +8,11 @@ use Rattle.star_lex.proofs.word.limit.Tie as tie
 
 returns : tie.Need-returns
 unfolding limited kindOf
-returns c = λ more content e. rw (e, lt-leb _ _ (c .if1 .taken))
+returns c = λ more content e. rw (e, lt-leb (c .before .args .len) 32 (omega arith))
 
 returns-2 : tie.Need-returns-2
 unfolding limited kindOf
-returns-2 c = λ more content e. rw (e, le-leb _ _ (c .if1 .left))
+returns-2 c = λ more content e. rw (e, le-leb (c .before .args .len) 32 (omega arith))
 
 pub limit-spec : {M : Type 1} → statement M
 limit-spec = tie.close (tie.spec returns returns-2)

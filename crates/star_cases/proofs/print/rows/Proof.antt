@@ -1,0 +1,55 @@
+-- `rows` is safe and ends: each turn writes one word.
+use Prim.Native.Nat.{_-_}
+use borrow.Author.Needs.{needs}
+use lib.ListN.{length}
+use Rattle.star_cases.proofs.print.rows.Statement.{statement}
+use Rattle.star_cases.proofs.print.rows.Tie as tie
+
+abbrev Inv-loop : tie.InvT-loop
+Inv-loop words width at₀ at = Unit {0}
+
+abbrev μ-loop : tie.MeasureT-loop
+μ-loop words width at₀ at = length words - at
+
+loop-holds : tie.Need-loop-holds Inv-loop μ-loop
+loop-holds c = search needs
+
+separator-requires : tie.Need-separator-requires Inv-loop μ-loop
+separator-requires c κs = search needs
+
+mul-number : tie.Need-mul-number Inv-loop μ-loop
+mul-number c = search needs
+
+shared-slice-read-number : tie.Need-shared-slice-read-number Inv-loop μ-loop
+shared-slice-read-number c = search needs
+
+number-requires : tie.Need-number-requires Inv-loop μ-loop
+number-requires c κs = search needs
+
+add-at : tie.Need-add-at Inv-loop μ-loop
+add-at c = search needs
+
+loop-less : tie.Need-loop-less Inv-loop μ-loop
+loop-less c = search needs
+
+loop-again : tie.Need-loop-again Inv-loop μ-loop
+loop-again c = search needs
+
+returns : tie.Need-returns Inv-loop μ-loop
+returns c = search needs
+
+pub rows-spec : {M : Type 1} → statement M
+rows-spec =
+    tie.close
+    (tie.spec
+    Inv-loop
+    μ-loop
+    loop-holds
+    separator-requires
+    mul-number
+    shared-slice-read-number
+    number-requires
+    add-at
+    loop-less
+    loop-again
+    returns)

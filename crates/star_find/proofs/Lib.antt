@@ -1,0 +1,7 @@
+pub mod Looking
+pub mod Seeking
+pub mod Answers
+pub mod Numbered
+pub mod After
+pub mod Values
+pub mod Lookup

@@ -1,0 +1,207 @@
+-- Lookup after acceptance. The tables hold the reading's rows, so a search through a table answers the first row with the wanted bytes, and the
+-- rows of names and sets are the tree's names and codes with their sets' numbers.
+use mathlib.Core.Path.{_≡_, refl, sym, _∙_, ap}
+use mathlib.Core.Bool.{Bool, true, false, cond}
+use mathlib.Core.List.{List, map, List·Memᴰ}
+use mathlib.Core.Logic.{_↔_}
+use Prim.Native.Nat.{ℕ, _-_, _<_}
+use native.Mathlib.Omega.{arith}
+use lib.ListN.{length, getD, length-map, List·getD-map}
+use Rattle.star_rows.specs.Rows.{holding}
+use Rattle.star_lex.specs.Tokens.{Placed}
+use Rattle.star_grammar.specs.Tree.{File}
+use Rattle.star_grammar.specs.Tables.{SetRow, NameRow, Rows, setWords, nameWords}
+use Rattle.star_grammar.proofs.Counted.{name-wide, set-wide}
+use Rattle.star_grammar.proofs.RowsOf.{contentIn, nameIn, setIn, fileSets, IsToken}
+use Rattle.star_unique.proofs.Held.{each-at}
+use Rattle.star_read.specs.Read.{accepted, Sizes, tokensOnly, readOf}
+use Rattle.star_read.proofs.Demand3.{rows-of-reading}
+use Rattle.star_find.specs.Find.{findName, findBlock, findFrame, isRow, look, refused}
+use Rattle.star_find.specs.Demands.{left, counted, contentOf, HoldsName, FirstName, LookupByName, SetWith, LookupBlock, HoldsFrame, LookupFrame, ValuesInOrder}
+use Rattle.star_find.specs.declared.Found.{Found}
+use Rattle.star_find.proofs.Seeking.{Sought, sought-alike, FirstOf, asked, asked-first, asked-parent, look-sought}
+use Rattle.star_find.proofs.Answers.{Answers, place-made, answers}
+use Rattle.star_find.proofs.Numbered.{holds-name, sets-count, holds-frame, sets-count-codes, block-code, code-block}
+use Rattle.star_find.proofs.After.{counts-fit, row-inside, content-in, token-content, RowsAfter, rows-after}
+use Rattle.star_find.proofs.Values.{value-found, value-none}
+
+-- no row, which stands where there is none
+abbrev noName : NameRow
+noName = record { set = 0; name = 0; loop = 0; level = 0 }
+
+abbrev noSet : SetRow
+noSet = record { kind = 0; heading = 0; parent = 0 }
+
+-- a row of a set with a name, and a row of a set with a code
+abbrev HasName : (ps : List Placed) (set : ℕ) (name : List ℕ) → NameRow → Type 0
+HasName ps set name x = (x .set ≡ set) × (contentOf ps (x .name) ≡ name)
+
+abbrev HasCode : (ps : List Placed) (kind parent : ℕ) (code : List ℕ) → SetRow → Type 0
+HasCode ps kind parent code x = (x .kind ≡ kind) × (x .parent ≡ parent) × (contentOf ps (x .heading) ≡ code)
+
+has-name : (ps : List Placed) (set : ℕ) (name : List ℕ) (x : NameRow) → HasName ps set name x ↔ (nameIn (tokensOnly ps) x ≡ (set, name))
+has-name ps set name x = (
+  λ p. let c : contentIn (tokensOnly ps) (x .name) ≡ name = content-in ps (x .name) ∙ p .1 in λ j. (p .0 j, c j),
+  λ q. (ap (λ y. y .0) q, sym (content-in ps (x .name)) ∙ ap (λ y. y .1) q),
+)
+
+has-code : (ps : List Placed) (kind parent : ℕ) (code : List ℕ) (x : SetRow)
+    → HasCode ps kind parent code x ↔ (setIn (tokensOnly ps) x ≡ (kind, parent, code))
+has-code ps kind parent code x = (
+  λ p. let c : contentIn (tokensOnly ps) (x .heading) ≡ code = content-in ps (x .heading) ∙ p .2 in λ j. (p .0 j, p .1 j, c j),
+  λ q. (ap (λ y. y .0) q, ap (λ y. y .1) q, sym (content-in ps (x .heading)) ∙ ap (λ y. y .2) q),
+)
+
+-- the first row that has a name, as it is demanded
+first-name : (ps : List Placed) (rows : Rows) (set : ℕ) (name : List ℕ) (row : ℕ)
+    → FirstOf (λ i. HasName ps set name (getD (rows .names) i noName)) (length (rows .names)) row → FirstName ps rows set name row
+first-name ps rows set name row p =
+    let s : (i : ℕ) → getD (map (λ r. r .set) (rows .names)) i 0 ≡ getD (rows .names) i noName .set = λ i. List·getD-map (λ r. r .set) (rows .names) i noName in
+    let t : (i : ℕ) → contentOf ps (getD (map (λ r. r .name) (rows .names)) i 0) ≡ contentOf ps (getD (rows .names) i noName .name)
+    = λ i. ap (contentOf ps) (List·getD-map (λ r. r .name) (rows .names) i noName) in
+    record {
+      low = p .low;
+      high = p .high;
+      of-set = s (row - 1) ∙ p .is .0;
+      equal = t (row - 1) ∙ p .is .1;
+      first = λ i l b q c. p .before i l b (sym (s (i - 1)) ∙ q, sym (t (i - 1)) ∙ c);
+    }
+
+set-with : (ps : List Placed) (rows : Rows) (kind parent : ℕ) (code : List ℕ) (row : ℕ)
+    → FirstOf (λ i. HasCode ps kind parent code (getD (rows .sets) i noSet)) (length (rows .sets)) row → SetWith ps rows kind parent code row
+set-with ps rows kind parent code row p = record {
+  low = p .low;
+  high = p .high;
+  of-kind = List·getD-map (λ r. r .kind) (rows .sets) (row - 1) noSet ∙ p .is .0;
+  of-parent = List·getD-map (λ r. r .parent) (rows .sets) (row - 1) noSet ∙ p .is .1;
+  equal = ap (contentOf ps) (List·getD-map (λ r. r .heading) (rows .sets) (row - 1) noSet) ∙ p .is .2;
+}
+
+-- the searches through the rows of names and of sets
+looked-names : (file : List ℕ) (words : Sizes) (ps : List Placed) (rows : Rows) (set : ℕ) (name : List ℕ) → Found
+looked-names file words ps rows set name =
+    look (left file words ps rows) (counted ps rows) (holding nameWords (rows .names) (words .names)) 4 set false 0 name (length (rows .names))
+
+looked-sets : (file : List ℕ) (words : Sizes) (ps : List Placed) (rows : Rows) (kind : ℕ) (byParent : Bool) (parent : ℕ) (code : List ℕ) → Found
+looked-sets file words ps rows kind byParent parent code =
+    look (left file words ps rows) (counted ps rows) (holding setWords (rows .sets) (words .sets)) 3 kind byParent parent code (length (rows .sets))
+
+-- a lookup is its search, after the check of a set's number
+module _ (file : List ℕ) (words : Sizes) (ps : List Placed) (rows : Rows) where
+  find-name : (set : ℕ) (name : List ℕ)
+      → findName (left file words ps rows) (counted ps rows) set name ≡ cond (isRow (length (rows .sets)) set) (looked-names file words ps rows set name) (refused 14)
+  unfolding findName left counted looked-names
+  find-name set name = rw (counts-fit file words ps rows)
+
+  find-block : (code : List ℕ) → findBlock (left file words ps rows) (counted ps rows) code ≡ looked-sets file words ps rows 1 false 0 code
+  unfolding findBlock left counted looked-sets
+  find-block code = rw (counts-fit file words ps rows)
+
+  find-frame : (set : ℕ) (code : List ℕ)
+      → findFrame (left file words ps rows) (counted ps rows) set code ≡ cond (isRow (length (rows .sets)) set) (looked-sets file words ps rows 2 true set code) (refused 14)
+  unfolding findFrame left counted looked-sets
+  find-frame set code = rw (counts-fit file words ps rows)
+
+-- the rows that each search answers, and what they are in the tree
+module _ (file : List ℕ) (words : Sizes) (ps : List Placed) (rows : Rows) (e : readOf file words ≡ accepted ps rows) (f : File) (k : RowsAfter ps rows f) where
+  names-sought : (set : ℕ) (name : List ℕ)
+      → Sought (λ i. HasName ps set name (getD (rows .names) i noName)) (length (rows .names)) (looked-names file words ps rows set name)
+  unfolding looked-names left counted nameWords
+  names-sought set name =
+      sought-alike (λ i h. let a : (asked set false 0 (nameWords (getD (rows .names) i noName)) ≡ true) ↔ (getD (rows .names) i noName .set ≡ set)
+      = asked-first set 0 (nameWords (getD (rows .names) i noName)) in (λ p. (a .0 (p .0), p .1), λ q. (a .1 (q .0), q .1)))
+      (look-sought 4 nameWords name-wide noName (rows .names) (words .names) (left file words ps rows) (counted ps rows) set false 0 name (contentOf ps) (omega arith)
+      (λ i h. token-content file words ps rows e (getD (rows .names) i noName .name)
+      (each-at (λ x. IsToken (length ps) (x .name)) (rows .names) i noName h (k .inside .name-tokens))))
+
+  sets-sought : (kind : ℕ) (byParent : Bool) (parent : ℕ) (code : List ℕ)
+      → Sought (λ i. (asked kind byParent parent (setWords (getD (rows .sets) i noSet)) ≡ true) × (contentOf ps (getD (rows .sets) i noSet .heading) ≡ code))
+      (length (rows .sets)) (looked-sets file words ps rows kind byParent parent code)
+  unfolding looked-sets left counted setWords
+  sets-sought kind byParent parent code =
+      look-sought 3 setWords set-wide noSet (rows .sets) (words .sets) (left file words ps rows) (counted ps rows) kind byParent parent code (contentOf ps) (omega arith)
+      (λ i h. token-content file words ps rows e (getD (rows .sets) i noSet .heading)
+      (each-at (λ x. IsToken (length ps) (x .heading)) (rows .sets) i noSet h (k .inside .headings)))
+
+  frames-sought : (set : ℕ) (code : List ℕ)
+      → Sought (λ i. HasCode ps 2 set code (getD (rows .sets) i noSet)) (length (rows .sets)) (looked-sets file words ps rows 2 true set code)
+  unfolding setWords
+  frames-sought set code =
+      sought-alike (λ i h. let x : SetRow = getD (rows .sets) i noSet in
+      let a : (asked 2 true set (setWords x) ≡ true) ↔ ((x .kind ≡ 2) × (x .parent ≡ set)) = asked-parent 2 set (setWords x) in
+      (λ p. (a .0 (p .0) .0, a .0 (p .0) .1, p .1), λ q. (a .1 (q .0, q .1), q .2)))
+      (sets-sought 2 true set code)
+
+  -- a row of kind 1 is a block's, so it has no parent
+  no-parent : (i : ℕ) → i < length (rows .sets) → getD (rows .sets) i noSet .kind ≡ 1 → getD (rows .sets) i noSet .parent ≡ 0
+  no-parent i h q =
+      let x : SetRow = getD (rows .sets) i noSet in
+      let c : List ℕ = contentIn (tokensOnly ps) (x .heading) in
+      block-code 0 f (x .parent) c (rw (k .sets) at
+      (place-made (setIn (tokensOnly ps)) (rows .sets) i noSet (1, x .parent, c) h (λ j. (q j, x .parent, c)))) .0
+
+  blocks-sought : (code : List ℕ) → Sought (λ i. HasCode ps 1 0 code (getD (rows .sets) i noSet)) (length (rows .sets)) (looked-sets file words ps rows 1 false 0 code)
+  unfolding setWords
+  blocks-sought code =
+      sought-alike (λ i h. let x : SetRow = getD (rows .sets) i noSet in
+      let a : (asked 1 false 0 (setWords x) ≡ true) ↔ (x .kind ≡ 1) = asked-first 1 0 (setWords x) in
+      (λ p. (a .0 (p .0), no-parent i h (a .0 (p .0)), p .1), λ q. (a .1 (q .0), q .2)))
+      (sets-sought 1 false 0 code)
+
+  -- sets are counted by their rows
+  sets-are : length (rows .sets) ≡ length (fileSets 0 f)
+  sets-are = sym (length-map (rows .sets) (setIn (tokensOnly ps))) ∙ ap length (k .sets)
+
+  name-answers : (set : ℕ) (name : List ℕ)
+      → Answers (HoldsName f set name) (λ i. HasName ps set name (getD (rows .names) i noName)) (length (rows .names))
+      (findName (left file words ps rows) (counted ps rows) set name)
+  name-answers set name =
+      rw (find-name file words ps rows set name)
+      (answers (nameIn (tokensOnly ps)) (set, name) (HasName ps set name) (has-name ps set name) (rows .names) noName (isRow (length (rows .sets)) set)
+      (looked-names file words ps rows set name) (names-sought set name) (HoldsName f set name) (λ m. holds-name f set name .0 (rw (k .names) at m))
+      (λ h. (row-inside (length (rows .sets)) set (h .low) (omega (arith, h .high, sets-are, sets-count 0 f)), rw (k .names) (holds-name f set name .1 h))))
+
+  block-answers : (code : List ℕ)
+      → Answers (List·Memᴰ code (map (λ b. b .heading .content) f)) (λ i. HasCode ps 1 0 code (getD (rows .sets) i noSet)) (length (rows .sets))
+      (findBlock (left file words ps rows) (counted ps rows) code)
+  block-answers code =
+      rw (find-block file words ps rows code)
+      (answers (setIn (tokensOnly ps)) (1, 0, code) (HasCode ps 1 0 code) (has-code ps 1 0 code) (rows .sets) noSet true
+      (looked-sets file words ps rows 1 false 0 code) (blocks-sought code) (List·Memᴰ code (map (λ b. b .heading .content) f)) (λ m. block-code 0 f 0 code (rw (k .sets) at m) .1)
+      (λ h. (refl, rw (k .sets) (code-block 0 f code h))))
+
+  frame-answers : (set : ℕ) (code : List ℕ)
+      → Answers (HoldsFrame f set code) (λ i. HasCode ps 2 set code (getD (rows .sets) i noSet)) (length (rows .sets))
+      (findFrame (left file words ps rows) (counted ps rows) set code)
+  frame-answers set code =
+      rw (find-frame file words ps rows set code)
+      (answers (setIn (tokensOnly ps)) (2, set, code) (HasCode ps 2 set code) (has-code ps 2 set code) (rows .sets) noSet (isRow (length (rows .sets)) set)
+      (looked-sets file words ps rows 2 true set code) (frames-sought set code) (HoldsFrame f set code) (λ m. holds-frame f set code .0 (rw (k .sets) at m))
+      (λ h. (row-inside (length (rows .sets)) set (h .low) (omega (arith, h .high, sets-are, sets-count-codes 0 f)), rw (k .sets) (holds-frame f set code .1 h))))
+
+-- demand 3, fifth sentence
+pub lookup-by-name : LookupByName
+lookup-by-name file words ps rows e r set name =
+    let a : Answers (HoldsName (r .tree) set name) (λ i. HasName ps set name (getD (rows .names) i noName)) (length (rows .names))
+    (findName (left file words ps rows) (counted ps rows) set name)
+    = name-answers file words ps rows e (r .tree) (rows-after file words ps rows e r) set name in
+    (a .0, λ h. first-name ps rows set name _ (a .1 h))
+
+pub lookup-block : LookupBlock
+lookup-block file words ps rows e r code =
+    let a : Answers (List·Memᴰ code (map (λ b. b .heading .content) (r .tree))) (λ i. HasCode ps 1 0 code (getD (rows .sets) i noSet)) (length (rows .sets))
+    (findBlock (left file words ps rows) (counted ps rows) code)
+    = block-answers file words ps rows e (r .tree) (rows-after file words ps rows e r) code in
+    (a .0, λ h. set-with ps rows 1 0 code _ (a .1 h))
+
+pub lookup-frame : LookupFrame
+lookup-frame file words ps rows e r set code =
+    let a : Answers (HoldsFrame (r .tree) set code) (λ i. HasCode ps 2 set code (getD (rows .sets) i noSet)) (length (rows .sets))
+    (findFrame (left file words ps rows) (counted ps rows) set code)
+    = frame-answers file words ps rows e (r .tree) (rows-after file words ps rows e r) set code in
+    (a .0, λ h. set-with ps rows 2 set code _ (a .1 h))
+
+pub values-in-order : ValuesInOrder
+values-in-order file words ps rows e name low high =
+    let k : RowsAfter ps rows _ = rows-after file words ps rows e (rows-of-reading file words ps rows e .1) in
+    (value-found file words ps rows e (k .inside) name low high, value-none file words ps rows e (k .inside) name low high)

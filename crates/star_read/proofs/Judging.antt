@@ -1,0 +1,102 @@
+-- What the numbers of a run and of a table tell: the place of a token from its row, and which of the checks of the grammar and of the room
+-- decides.
+use mathlib.Core.Path.{_≡_, refl, sym, _∙_, ap}
+use mathlib.Core.Bool.{Bool, true, false, cond}
+use mathlib.Core.List.{List, [], _∷_}
+use Prim.Native.Nat.{ℕ, zero, suc, _+_, _*_, _≤_, _<_}
+use native.Mathlib.Nat.{add-zero}
+use native.Mathlib.Omega.{arith}
+use borrow.Author.Tests.{lt-ltb, le-ltb}
+use lib.Dec.{ltb}
+use lib.ListN.{length, getD}
+use Rattle.star_rows.proofs.Held.{held-word}
+use Rattle.star_lex.specs.Tokens.{Token, Placed, opening, tokenRow}
+use Rattle.star_lex.specs.Split.{placed, tokensOf}
+use Rattle.star_lex.proofs.Splitting.{row-wide}
+use Rattle.star_grammar.specs.Tables.{Rows}
+use Rattle.star_grammar.specs.Machine.{State, Run, bad, good, run}
+use Rattle.star_grammar.specs.declared.Parsed.{Parsed}
+use Rattle.star_grammar.proofs.Walking.{Halts, bad-halts}
+use Rattle.star_grammar.proofs.Refusals.{Refusal, refusal, EndRefusal, end-refusal}
+use Rattle.star_unique.specs.Holds.{Holds}
+use Rattle.star_read.specs.Read.{Outcome, refused, accepted, Sizes, placeOf, decide, fitting}
+use Rattle.star_read.specs.Answer.{judgedOf, roomOf, words, Ran}
+use Rattle.star_read.specs.declared.Judged.{Judged}
+
+-- no token, which stands where there is none
+abbrev nowhere : Placed
+nowhere = record { at = 0; token = record { kind = 0; content = [] } }
+
+place-in : (size : ℕ) (ps : List Placed) (n : ℕ) → n < length ps → placeOf size ps n ≡ getD ps n nowhere .at
+unfolding placeOf
+place-in size [] n h = absurd (omega arith)
+place-in size (p ∷ ps) zero h = refl
+place-in size (p ∷ ps) (suc n) h = place-in size ps n (omega arith)
+
+pub place-over : (size : ℕ) (ps : List Placed) (n : ℕ) → length ps ≤ n → placeOf size ps n ≡ size
+unfolding placeOf
+place-over size [] n h = refl
+place-over size (p ∷ ps) zero h = absurd (omega arith)
+place-over size (p ∷ ps) (suc n) h = place-over size ps n (omega arith)
+
+-- a token's content begins behind its first byte and what stands before the content
+pub first-byte : (file words : List ℕ) (count : ℕ) → Holds file words count → (n : ℕ) → n < count
+    → getD words (n * 3 + 1) 0 ≡ placeOf (length file) (placed (tokensOf file)) n + length (opening (getD words (n * 3) 0))
+unfolding tokenRow
+first-byte file words count h n below =
+    let ps : List Placed = placed (tokensOf file) in
+    let w : (k : ℕ) → k < 3 → getD words (n * 3 + k) 0 ≡ getD (tokenRow (getD ps n nowhere)) k 0
+    = λ k j. ap (λ ws. getD ws (n * 3 + k) 0) (h .rows) ∙ held-word 3 tokenRow row-wide nowhere ps (length words) n k (omega (arith, h .count-is)) j in
+    let kind : getD words (n * 3) 0 ≡ getD ps n nowhere .token .kind = ap (λ i. getD words i 0) (sym (add-zero (n * 3))) ∙ w 0 (omega arith) in
+    w 1 (omega arith)
+    ∙ ap (λ a. a + length (opening (getD ps n nowhere .token .kind))) (sym (place-in (length file) ps n (omega (arith, h .count-is))))
+    ∙ ap (λ k. placeOf (length file) ps n + length (opening k)) (sym kind)
+
+refusal-number : {limit : ℕ} {st : State} {k : _} {r : Rows} {n : ℕ} → Refusal limit st k r n → n ≡ 0 → ⊥
+refusal-number (Refusal.global e) z = omega arith
+refusal-number (Refusal.deep more h s u e) z = omega arith
+refusal-number (Refusal.packet i e) z = omega arith
+refusal-number (Refusal.other i e) z = omega arith
+
+end-number : {st : State} {n : ℕ} → EndRefusal st n → n ≡ 0 → ⊥
+end-number (EndRefusal.packet i) z = omega arith
+end-number (EndRefusal.other i) z = omega arith
+
+-- a run that refuses has a number
+pub run-number : (limit : ℕ) (st : State) (ts : List Token) (r : Rows) (n i : ℕ) → run limit st ts r ≡ bad n i → n ≡ 0 → ⊥
+run-number limit st ts r n i e = go (bad-halts limit ts st r n i e)
+  where
+    go : Halts limit st ts r n i → n ≡ 0 → ⊥
+    go (Halts.token p t q s u a b c d) = refusal-number (refusal limit s _ u n c)
+    go (Halts.end s u a b) = end-number (end-refusal s u n i b)
+
+judged-cond : (t : Bool) (x y : Outcome) → judgedOf (cond t x y) ≡ cond t (judgedOf x) (judgedOf y)
+judged-cond true x y = refl
+judged-cond false x y = refl
+
+judged-fitting : (t s n p v : ℕ) (ps : List Placed) (rows : Rows)
+    → judgedOf (fitting (words t s n p v) (accepted ps rows))
+    ≡ roomOf (length (rows .sets)) (length (rows .names)) (length (rows .packets)) (length (rows .values)) s n p v
+unfolding fitting roomOf judgedOf
+judged-fitting t s n p v ps rows = rw (judged-cond, judged-cond, judged-cond, judged-cond)
+
+module _ (w : Sizes) (size : ℕ) (ps : List Placed) (taken : ℕ) (r : Parsed) where
+  pub judge-repeat : (x : Run) → Ran x (length ps) r → taken < r .tokens
+      → judgedOf (fitting w (decide size ps taken x)) ≡ record { refusal = 9; place = placeOf size ps taken }
+  unfolding decide fitting judgedOf
+  judge-repeat (bad n i) a h = rw (lt-ltb taken i (omega arith))
+  judge-repeat (good rows) a h = rw (lt-ltb taken (length ps) (omega arith))
+
+  pub judge-bad : (x : Run) → Ran x (length ps) r → r .tokens ≤ taken → (r .refusal ≡ 0 → ⊥)
+      → judgedOf (fitting w (decide size ps taken x)) ≡ record { refusal = r .refusal; place = placeOf size ps (r .tokens) }
+  unfolding decide fitting judgedOf
+  judge-bad (bad n i) a h f = rw (le-ltb taken i (omega arith), a .0, a .1)
+  judge-bad (good rows) a h f = absurd (f (a .0))
+
+pub judge-room : (t s n p v size : ℕ) (ps : List Placed) (taken : ℕ) (r : Parsed) (x : Run) → ((m i : ℕ) → x ≡ bad m i → m ≡ 0 → ⊥)
+    → Ran x (length ps) r → r .tokens ≤ taken → r .refusal ≡ 0
+    → judgedOf (fitting (words t s n p v) (decide size ps taken x)) ≡ roomOf (r .sets) (r .names) (r .packets) (r .values) s n p v
+unfolding decide
+judge-room t s n p v size ps taken r (bad m i) f a h e = absurd (f m i refl (sym (a .0) ∙ e))
+judge-room t s n p v size ps taken r (good rows) f a h e =
+    rw (le-ltb taken (length ps) (omega arith), a .2, a .3, a .4, a .5) (judged-fitting t s n p v ps rows)
