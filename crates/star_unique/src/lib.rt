@@ -23,8 +23,8 @@ pub fn same(a: &[u8], b: &[u8]) -> bool
     true
 }
 
-// The content of token `n`.
-fn content<'a>(file: &'a [u8], tokens: &[u32], count: usize, n: usize) -> &'a [u8]
+// The content of token `n`. It is called by proved layers only, which hand it table 1 of the file.
+pub fn content<'a>(file: &'a [u8], tokens: &[u32], count: usize, n: usize) -> &'a [u8]
     requires { ⌜ Holds (now file) (now tokens) count ⌝ }
     requires { ⌜ n < count ⌝ }
     ensures { λ r. ⌜ now r ≡ tokenAt (now (file .entry)) n .content ⌝ }

@@ -1,0 +1,4 @@
+pub mod Putting
+pub mod Lengths
+pub mod Prefix
+pub mod RoundTrip

@@ -1,0 +1,70 @@
+-- The plain form of a file's first tokens: each token that a table holds goes behind those before it, within the whole.
+use mathlib.Core.Path.{_≡_, refl, sym, _∙_, ap}
+use mathlib.Core.List.{List, [], _∷_, _++_, flatMap, append-nil}
+use Prim.Native.Nat.{ℕ, _+_, _*_, _≤_, _<_}
+use native.Mathlib.Numerals.{add-one}
+use native.Mathlib.Omega.{arith}
+use lib.ListN.{length, getD, take, drop, length-append, length-take, length-drop, take-append-drop}
+use lib.Seq.{take-suc, take-all}
+use Rattle.star_rows.proofs.Stored.{flat-append}
+use Rattle.star_lex.specs.Tokens.{Token}
+use Rattle.star_lex.specs.Split.{Split, refused, accepted, tokensOf, placed}
+use Rattle.star_lex.specs.Plain.{plainToken, plainOf}
+use Rattle.star_lex.proofs.Parts.{split-count}
+use Rattle.star_unique.specs.Holds.{Holds, fileTokens, tokenAt}
+use Rattle.star_unique.proofs.Held.{Row, held-row, count-tokens}
+use Rattle.star_write.specs.Put.{tokenOf}
+
+-- the plain form of the first tokens of a row
+abbrev pub plainFirst : ℕ → List Token → List ℕ
+plainFirst n ts = plainOf (take n ts)
+
+plain-one : (t : Token) → plainOf (t ∷ []) ≡ plainToken t
+unfolding plainOf flatMap
+plain-one t = append-nil (plainToken t)
+
+plain-append : (ts us : List Token) → plainOf (ts ++ us) ≡ plainOf ts ++ plainOf us
+unfolding plainOf
+plain-append = flat-append plainToken
+
+plain-next : (n : ℕ) (ts : List Token) (d : Token) → n < length ts → plainFirst (n + 1) ts ≡ plainFirst n ts ++ plainToken (getD ts n d)
+plain-next n ts d h = rw (add-one, take-suc ts n d h, plain-append, plain-one)
+
+plain-within : (n : ℕ) (ts : List Token) → length (plainFirst n ts) ≤ length (plainOf ts)
+plain-within n ts =
+    let whole : plainFirst n ts ++ plainOf (drop n ts) ≡ plainOf ts = sym (plain-append (take n ts) (drop n ts)) ∙ ap plainOf (take-append-drop n ts) in
+    omega (arith, simp length-append at (ap length whole))
+
+few : (file : List ℕ) → length (placed (tokensOf file)) ≤ length file
+unfolding placed
+few file = go (tokensOf file) refl
+  where
+    go : (s : Split) → tokensOf file ≡ s → length (placed s) ≤ length file
+    go (refused n place) e = omega arith
+    go (accepted ps) e = split-count file ps e
+
+-- one token more of a table, by its kind and content
+pub record Next (file : List ℕ) (n kind : ℕ) (content : List ℕ) : Type 0 where
+  pub plain : plainFirst (n + 1) (fileTokens file) ≡ plainFirst n (fileTokens file) ++ plainToken (tokenOf kind content)
+  pub within : length (plainFirst (n + 1) (fileTokens file)) ≤ length (plainOf (fileTokens file))
+  pub sum : length (plainFirst (n + 1) (fileTokens file)) ≡ length (plainFirst n (fileTokens file)) + length (plainToken (tokenOf kind content))
+  pub small : length content ≤ 1048576
+
+module _ (file words : List ℕ) (count : ℕ) (h : Holds file words count) where
+  pub count-small : count ≤ 1048576
+  count-small = omega (arith, few file, h .small, h .count-is)
+
+  pub plain-all : (n : ℕ) → count ≤ n → plainFirst n (fileTokens file) ≡ plainOf (fileTokens file)
+  plain-all n g = ap plainOf (take-all n (fileTokens file) (omega (arith, count-tokens file words count h)))
+
+  pub next : (n : ℕ) → n < count → (content : List ℕ) → content ≡ tokenAt file n .content → Next file n (getD words (n * 3) 0) content
+  next n below content e =
+      let r : Row file words n = held-row file words count h n below in
+      let plain : plainFirst (n + 1) (fileTokens file) ≡ plainFirst n (fileTokens file) ++ plainToken (tokenOf (getD words (n * 3) 0) content) =
+      rw (r .kind, e) (plain-next n (fileTokens file) _ (omega (arith, count-tokens file words count h))) in
+      record {
+        plain = plain;
+        within = plain-within (n + 1) (fileTokens file);
+        sum = ap length plain ∙ simp length-append;
+        small = rw (e, ← (r .content)) (simp (length-take, length-drop) (omega (arith, h .small)));
+      }

@@ -1,0 +1,84 @@
+-- `plain_length` meets its contract: the sum so far is the length of the plain form of the tokens passed, of which none is longer than the
+-- file and nine bytes.
+use mathlib.Core.Path.{_≡_, refl, _∙_, ap}
+use mathlib.Core.List.{flatMap}
+use Prim.Native.Nat.{_-_, _*_, _≤_}
+use native.Mathlib.Omega.{arith}
+use lib.ListN.{length, getD}
+use Rattle.star_lex.specs.Plain.{plainOf}
+use Rattle.star_unique.specs.Holds.{fileTokens}
+use Rattle.star_write.specs.Put.{tokenOf}
+use Rattle.star_write.proofs.Lengths.{short-plain}
+use Rattle.star_write.proofs.Prefix.{plainFirst, Next, next, count-small, plain-all}
+use Rattle.star_write.proofs.plain.plain_length.Statement.{statement}
+use Rattle.star_write.proofs.plain.plain_length.Tie as tie
+
+abbrev Inv-loop : tie.InvT-loop
+Inv-loop file tokens count total₀ n₀ total n = (n ≤ count) × (total ≡ length (plainFirst n (fileTokens file))) × (total ≤ n * 1048585)
+
+abbrev μ-loop : tie.MeasureT-loop
+μ-loop file tokens count total₀ n₀ total n = count - n
+
+loop-holds : tie.Need-loop-holds Inv-loop μ-loop
+unfolding plainOf flatMap
+loop-holds c = (omega arith, refl, omega arith)
+
+mul-kind : tie.Need-mul-kind Inv-loop μ-loop
+mul-kind c = omega arith
+
+mul-kind-2 : tie.Need-mul-kind-2 Inv-loop μ-loop
+mul-kind-2 c = omega arith
+
+shared-slice-read-kind : tie.Need-shared-slice-read-kind Inv-loop μ-loop
+shared-slice-read-kind c = omega arith
+
+content-requires : tie.Need-content-requires Inv-loop μ-loop
+content-requires c κs = (c .before .before .before .before .before .pre, omega arith)
+
+token-length-requires : tie.Need-token-length-requires Inv-loop μ-loop
+token-length-requires c κs = tt
+
+-- the turn's token
+turn : (c : tie.After-content Inv-loop μ-loop)
+    → Next (c .before .before .before .before .before .before .args .file .now) (c .before .before .before .loop .n) (getD (c .before .before .before .before .before .before .args .tokens .now) (c .before .before .before .loop .n * 3) 0) (c .content .result .now)
+turn c = next _ _ _ (c .before .before .before .before .before .before .pre) (c .before .before .before .loop .n) (omega arith) _ (c .content .ensures)
+
+-- its length
+short : (c : tie.After-token-length Inv-loop μ-loop) → c .token-length .result ≤ 1048585
+short c =
+    let start = c .before .before .before .before .before .before .before in
+    let kind = getD (start .args .tokens .now) (c .before .before .before .before .loop .n * 3) 0 in
+    omega (arith, c .token-length .ensures, short-plain (tokenOf kind (c .before .content .result .now)), turn (c .before) .small)
+
+add-total : tie.Need-add-total Inv-loop μ-loop
+add-total c = omega (arith, short c, count-small _ _ _ (c .before .before .before .before .before .before .before .pre))
+
+add-n : tie.Need-add-n Inv-loop μ-loop
+add-n c = omega arith
+
+loop-less : tie.Need-loop-less Inv-loop μ-loop
+loop-less c = omega arith
+
+loop-again : tie.Need-loop-again Inv-loop μ-loop
+loop-again c = (omega arith, omega (arith, turn (c .before) .sum, c .token-length .ensures), omega (arith, short c))
+
+returns : tie.Need-returns Inv-loop μ-loop
+returns c = c .before .loop .inv .1 ∙ ap length (plain-all _ _ _ (c .before .before .before .before .pre) (c .before .loop .n) (omega arith))
+
+pub plain-length-spec : {M : Type 1} → statement M
+plain-length-spec =
+    tie.close
+    (tie.spec
+    Inv-loop
+    μ-loop
+    loop-holds
+    mul-kind
+    mul-kind-2
+    shared-slice-read-kind
+    content-requires
+    token-length-requires
+    add-total
+    add-n
+    loop-less
+    loop-again
+    returns)

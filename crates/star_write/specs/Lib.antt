@@ -1,0 +1,3 @@
+pub mod Write
+pub mod Put
+pub mod Demands

@@ -1,0 +1,4 @@
+// Writing the plain form.
+mod plain;
+mod room;
+mod token;

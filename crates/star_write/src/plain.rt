@@ -1,0 +1,40 @@
+// The plain form of a file. These functions are called by proved layers only, which hand them table 1 of the file and lend room enough.
+use super::token;
+ghost use mathlib.Core.Path.{_≡_};
+ghost use mathlib.Core.List.{_++_};
+ghost use Prim.Native.Nat.{_≤_};
+ghost use lib.ListN.{length, drop};
+ghost use Rattle.star_lex.specs.Plain.{plainOf};
+ghost use Rattle.star_unique.specs.Holds.{Holds, fileTokens};
+
+// How many bytes the tokens take.
+pub fn plain_length(file: &[u8], tokens: &[u32], count: usize) -> usize
+    requires { ⌜ Holds (now file) (now tokens) count ⌝ }
+    ensures { λ r. ⌜ r ≡ length (plainOf (fileTokens (now (file .entry)))) ⌝ }
+{
+    let mut total: usize = 0;
+    let mut n = 0;
+    while n < count {
+        let kind = tokens[n * 3];
+        total += token::token_length(kind, star_unique::content(file, tokens, count, n));
+        n += 1;
+    }
+    total
+}
+
+// Writes the tokens in order, each into the room that is left.
+pub fn put_tokens(file: &[u8], tokens: &[u32], count: usize, out: &mut [u8])
+    requires { ⌜ Holds (now file) (now tokens) count ⌝ }
+    requires { ⌜ length (plainOf (fileTokens (now file))) ≤ length (now out) ⌝ }
+    ensures { λ _. ⌜ now (out .exit) ≡ plainOf (fileTokens (now (file .entry)))
+        ++ drop (length (plainOf (fileTokens (now (file .entry))))) (now (out .entry)) ⌝ }
+{
+    let mut at = 0;
+    let mut n = 0;
+    while n < count {
+        let kind = tokens[n * 3];
+        let content = star_unique::content(file, tokens, count, n);
+        at += token::put_token(&mut out[at..], kind, content);
+        n += 1;
+    }
+}

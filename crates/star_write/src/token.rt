@@ -1,0 +1,102 @@
+// The plain form of one token.
+use super::room;
+ghost use mathlib.Core.Path.{_≡_};
+ghost use mathlib.Core.Bool.{_&&_};
+ghost use Prim.Native.Nat.{_+_, _≤_};
+ghost use lib.Dec.{eqb};
+ghost use lib.ListN.{length};
+ghost use Rattle.star_lex.specs.Tokens.{opening};
+ghost use Rattle.star_lex.specs.Split.{starts};
+ghost use Rattle.star_lex.specs.Plain.{closing, indent, plainToken};
+ghost use Rattle.star_write.specs.Put.{Put, Filled, tokenOf};
+
+// Whether a token is a kind 7 word that begins with `;`: at a line's start it would open a text field.
+fn is_indented(kind: u32, content: &[u8]) -> bool
+    ensures { λ r. ⌜ r ≡ (eqb kind 7 && starts 59 (now (content .entry))) ⌝ }
+{
+    if kind == 7 {
+        star_lex::scan::byte_at(content, 0, b';')
+    } else {
+        false
+    }
+}
+
+// Puts one blank before such a word.
+fn put_indent(out: &mut [u8], at: usize, kind: u32, content: &[u8]) -> usize
+    requires { ⌜ at + length (indent (tokenOf kind (now content))) ≤ length (now out) ⌝ }
+    ensures { λ r. ⌜ Put (indent (tokenOf kind (now (content .entry)))) at (now (out .entry)) (now (out .exit)) r ⌝ }
+{
+    if is_indented(kind, content) {
+        room::put_bytes(out, at, b" ")
+    } else {
+        at
+    }
+}
+
+// Puts what stands before a token's content.
+fn put_opening(out: &mut [u8], at: usize, kind: u32) -> usize
+    requires { ⌜ at + length (opening kind) ≤ length (now out) ⌝ }
+    ensures { λ r. ⌜ Put (opening kind) at (now (out .entry)) (now (out .exit)) r ⌝ }
+{
+    match kind {
+        1 => room::put_bytes(out, at, b"data_"),
+        2 => room::put_bytes(out, at, b"save_"),
+        8 => room::put_bytes(out, at, b"$"),
+        9 => room::put_bytes(out, at, b"'"),
+        10 => room::put_bytes(out, at, b"\""),
+        11 => room::put_bytes(out, at, b";"),
+        _ => at,
+    }
+}
+
+// Puts what stands after a token's content.
+fn put_closing(out: &mut [u8], at: usize, kind: u32) -> usize
+    requires { ⌜ at + length (closing kind) ≤ length (now out) ⌝ }
+    ensures { λ r. ⌜ Put (closing kind) at (now (out .entry)) (now (out .exit)) r ⌝ }
+{
+    match kind {
+        9 => room::put_bytes(out, at, b"'"),
+        10 => room::put_bytes(out, at, b"\""),
+        11 => room::put_bytes(out, at, b"\n;"),
+        _ => at,
+    }
+}
+
+// Writes a token at the start of the room that is left, and answers how many bytes. It is called by proved layers only, which lend room enough.
+pub fn put_token(out: &mut [u8], kind: u32, content: &[u8]) -> usize
+    requires { ⌜ length (plainToken (tokenOf kind (now content))) ≤ length (now out) ⌝ }
+    ensures { λ r. ⌜ Filled (plainToken (tokenOf kind (now (content .entry)))) (now (out .entry)) (now (out .exit)) r ⌝ }
+{
+    let indented = put_indent(out, 0, kind, content);
+    let opened = put_opening(out, indented, kind);
+    let filled = room::put_bytes(out, opened, content);
+    let closed = put_closing(out, filled, kind);
+    room::put_bytes(out, closed, b"\n")
+}
+
+// How many bytes stand before such a word.
+fn indent_length(kind: u32, content: &[u8]) -> usize
+    ensures { λ r. ⌜ r ≡ length (indent (tokenOf kind (now (content .entry)))) ⌝ }
+{
+    if is_indented(kind, content) { 1 } else { 0 }
+}
+
+// How many bytes stand after a token's content.
+fn closing_length(kind: u32) -> usize
+    ensures { λ r. ⌜ r ≡ length (closing kind) ⌝ }
+{
+    match kind {
+        9 => 1,
+        10 => 1,
+        11 => 2,
+        _ => 0,
+    }
+}
+
+// How many bytes a token takes, with the line end after it.
+pub fn token_length(kind: u32, content: &[u8]) -> usize
+    ensures { λ r. ⌜ r ≡ length (plainToken (tokenOf kind (now (content .entry)))) ⌝ }
+{
+    let start = indent_length(kind, content) + star_lex::word::lead(kind);
+    start + content.len() + closing_length(kind) + 1
+}
