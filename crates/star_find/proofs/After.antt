@@ -1,34 +1,30 @@
 -- What acceptance leaves: every table holds its rows, so every count fits; each token row has its token's content; and the tokens of all rows are
 -- rows of table 1, as the rows are those of the reading.
-use mathlib.Core.Path.{_≡_, refl, sym, _∙_, ap}
+use mathlib.Core.Path.{_≡_, sym, _∙_, ap}
 use mathlib.Core.Bool.{true}
 use mathlib.Core.List.{List, [], map, map-map}
 use mathlib.Core.Option.{some}
-use Prim.Native.Nat.{ℕ, _-_, _*_, _≤_}
+use Prim.Native.Nat.{ℕ, _-_, _≤_}
 use native.Mathlib.Nat.{add-zero}
 use native.Mathlib.Omega.{arith}
-use borrow.Author.Tests.{leb-true, le-leb}
-use lib.Dec.{leb}
+use borrow.Author.Tests.{le-leb}
 use lib.ListN.{length, getD, length-map, List·getD-map}
 use Rattle.star_rows.specs.Rows.{holding}
-use Rattle.star_rows.proofs.Held.{length-holding, holding-room}
+use Rattle.star_rows.proofs.Held.{holding-room}
 use Rattle.star_lex.specs.Tokens.{Placed, tokenRow}
-use Rattle.star_lex.specs.Split.{Split, tokensOf, placed}
+use Rattle.star_lex.specs.Split.{tokensOf, placed}
 use Rattle.star_lex.specs.Split as Split
-use Rattle.star_lex.specs.Found.{tokensIn}
-use Rattle.star_lex.specs.Found as Found
 use Rattle.star_lex.proofs.Splitting.{row-wide}
-use Rattle.star_lex.proofs.Cases.{impossible, cond-cases}
 use Rattle.star_grammar.specs.Tables.{Rows, rowsOf, setWords, nameWords, packetWords, valueWords}
 use Rattle.star_grammar.specs.Tree.{File}
 use Rattle.star_grammar.specs.Reading.{Reading}
 use Rattle.star_grammar.proofs.Counted.{set-wide, name-wide, packet-wide, value-wide}
 use Rattle.star_grammar.proofs.RowsOf.{contentIn, nameIn, setIn, fileNames, fileSets, IsToken, Inside, TreeRows, tree-rows}
-use Rattle.star_unique.specs.Holds.{Holds, tokenAt}
+use Rattle.star_unique.specs.Holds.{tokenAt}
 use Rattle.star_unique.proofs.Held.{Row, held-row}
-use Rattle.star_read.specs.Read.{accepted, Sizes, tokensOnly, after, readOf}
+use Rattle.star_read.specs.Read.{accepted, Sizes, tokensOnly, readOf}
 use Rattle.star_read.proofs.Demand3.{rows-of-reading, one-reading}
-use Rattle.star_read.proofs.Fitting.{refused≢accepted, tokens-accepted}
+use Rattle.star_read.proofs.Accepted.{accepted-holds}
 use Rattle.star_find.specs.Find.{fits, isRow, wordOf, partOf, contentAt, countsFit}
 use Rattle.star_find.specs.Demands.{left, counted, contentOf, kindOf}
 
@@ -47,18 +43,6 @@ counts-fit file words ps rows =
 pub row-inside : (count row : ℕ) → 1 ≤ row → row ≤ count → isRow count row ≡ true
 unfolding isRow
 row-inside count row l h = rw (le-leb 1 row l, le-leb row count h)
-
--- a file whose tokens fit is small, and table 1 has room for them
-tokens-fit : (file : List ℕ) (words : ℕ) (ps : List Placed) → tokensIn file words ≡ Split.accepted ps
-    → (length file ≤ 1048576) × (length ps * 3 ≤ words)
-unfolding tokensIn Found.fitting
-tokens-fit file words ps e =
-    cond-cases (leb (length file) 1048576) _ _ (Split.accepted ps) e (λ d h. (leb-true _ _ d, fits (tokensOf file) h)) (λ d h. impossible cc)
-  where
-    fits : (s : Split) → Found.fitting words s ≡ Split.accepted ps → length ps * 3 ≤ words
-    fits (Split.refused n place) h = impossible cc
-    fits (Split.accepted qs) h =
-        cond-cases (leb (length qs * 3) words) _ _ (Split.accepted ps) h (λ d k. let q : qs ≡ ps = cc in rw (← q) (leb-true _ _ d)) (λ d k. impossible cc)
 
 -- the content and the kind of a token of a row of tokens
 content-at : (ps : List Placed) (row : ℕ)
@@ -82,30 +66,9 @@ module _ (file : List ℕ) (words : Sizes) (ps : List Placed) (rows : Rows) (e :
   tokens-split : tokensOf file ≡ Split.accepted ps
   tokens-split = rows-of-reading file words ps rows e .0
 
-  table-tokens : tokensIn file (words .tokens) ≡ Split.accepted ps
-  unfolding readOf after
-  table-tokens = go (tokensIn file (words .tokens)) refl e
-    where
-      go : (s : Split) → tokensIn file (words .tokens) ≡ s → after (length file) words s ≡ accepted ps rows → s ≡ Split.accepted ps
-      go (Split.refused n place) d h = absurd (refused≢accepted n place ps rows h)
-      go (Split.accepted qs) d h = sym (tokens-accepted file (words .tokens) qs d) ∙ tokens-split
-
-  table-holds : Holds file (holding tokenRow ps (words .tokens)) (length ps)
-  unfolding placed
-  table-holds =
-      let k : (length file ≤ 1048576) × (length ps * 3 ≤ words .tokens) = tokens-fit file (words .tokens) ps table-tokens in
-      let size : length (holding tokenRow ps (words .tokens)) ≡ words .tokens
-      = length-holding 3 tokenRow row-wide (omega arith) ps (words .tokens) (k .1) in
-      record {
-        small = k .0;
-        rows = rw (tokens-split, size);
-        room = rw (tokens-split, size) (k .1);
-        count-is = rw tokens-split;
-      }
-
   module _ (row : ℕ) (is : IsToken (length ps) row) where
     token-row : Row file (holding tokenRow ps (words .tokens)) (row - 1)
-    token-row = held-row file (holding tokenRow ps (words .tokens)) (length ps) table-holds (row - 1) (omega (arith, is .0, is .1))
+    token-row = held-row file (holding tokenRow ps (words .tokens)) (length ps) (accepted-holds file words ps rows e) (row - 1) (omega (arith, is .0, is .1))
 
     token-at : tokenAt file (row - 1) ≡ getD (tokensOnly ps) (row - 1) (record { kind = 0; content = [] })
     unfolding placed

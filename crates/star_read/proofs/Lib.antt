@@ -11,3 +11,4 @@ pub mod Known
 pub mod Judging
 pub mod Settling
 pub mod Starting
+pub mod Accepted

@@ -11,8 +11,6 @@ use Rattle.star_rows.specs.Rows.{holding, clearedFrom}
 use Rattle.star_rows.proofs.Stored.{stored-holding}
 use Rattle.star_lex.specs.Tokens.{Placed, tokenRow}
 use Rattle.star_lex.specs.Split.{placed, tokensOf}
-use Rattle.star_lex.specs.Split as Split
-use Rattle.star_lex.proofs.Parts.{split-count}
 use Rattle.star_grammar.specs.Tables.{Rows, noRows, setWords, nameWords, packetWords, valueWords}
 use Rattle.star_grammar.specs.Machine.{Run, bad, good, run, start}
 use Rattle.star_grammar.specs.Parsed.{FourTables, Answers, Accepted, kindTokens}
@@ -114,15 +112,6 @@ held-run file table count h =
     ap (λ n. run 8 start (kindTokens n table) noRows) (h .count-is)
     ∙ ap (λ t. run 8 start (kindTokens (length ps) t) noRows) (h .rows)
     ∙ run-holding 8 start ps (length table) noRows
-
--- a file has no more tokens than bytes
-pub count-small : (file table : List ℕ) (count : ℕ) → Holds file table count → count ≤ 1048576
-unfolding placed
-count-small file table count h = go (tokensOf file) refl
-  where
-    go : (s : Split.Split) → tokensOf file ≡ s → count ≤ 1048576
-    go (Split.refused n place) e = omega (arith, h .count-is ∙ ap (λ s. length (placed s)) e)
-    go (Split.accepted ps) e = omega (arith, h .count-is ∙ ap (λ s. length (placed s)) e, split-count file ps e, h .small)
 
 -- the tables 2 to 5 keep their lengths
 pub record SameSizes (before after : FourTables) : Type 0 where

@@ -36,7 +36,7 @@ fitting-number file words n place (Split.refused m q) d e z = let k : m ≡ n = 
 fitting-number file words n place (Split.accepted ps) d e z =
     cond-cases (leb (length ps * 3) words) _ _ _ e (λ q h. impossible cc) (λ q h. let k : 7 ≡ n = cc in omega arith)
 
-in-number : (file : List ℕ) (words n place : ℕ) → tokensIn file words ≡ Split.refused n place → n ≡ 0 → ⊥
+pub in-number : (file : List ℕ) (words n place : ℕ) → tokensIn file words ≡ Split.refused n place → n ≡ 0 → ⊥
 unfolding tokensIn
 in-number file words n place e z =
     cond-cases (leb (length file) 1048576) _ _ _ e
@@ -59,7 +59,7 @@ fitting-room words (Split.refused n place) ps e = impossible cc
 fitting-room words (Split.accepted qs) ps e =
     cond-cases (leb (length qs * 3) words) _ _ _ e (λ q h. let k : qs ≡ ps = cc in rw (← k) (leb-true _ _ q)) (λ q h. impossible cc)
 
-in-fits : (file : List ℕ) (words : ℕ) (ps : List Placed) → tokensIn file words ≡ Split.accepted ps → (length file ≤ 1048576) × (length ps * 3 ≤ words)
+pub in-fits : (file : List ℕ) (words : ℕ) (ps : List Placed) → tokensIn file words ≡ Split.accepted ps → (length file ≤ 1048576) × (length ps * 3 ≤ words)
 unfolding tokensIn
 in-fits file words ps e =
     cond-cases (leb (length file) 1048576) _ _ _ e

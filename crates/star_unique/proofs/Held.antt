@@ -8,7 +8,7 @@ use native.Mathlib.Omega.{arith}
 use lib.ListN.{length, getD, take, drop, length-map, List·getD-map}
 use Rattle.star_lex.specs.Tokens.{Placed, Each, opening, tokenRow}
 use Rattle.star_lex.specs.Split.{Split, refused, accepted, tokensOf, placed}
-use Rattle.star_lex.proofs.Parts.{PartOf, split-parts, contentEnd}
+use Rattle.star_lex.proofs.Parts.{PartOf, split-parts, split-count, contentEnd}
 use Rattle.star_rows.proofs.Held.{held-word}
 use Rattle.star_unique.specs.Holds.{Holds, fileTokens, tokenAt}
 use Rattle.star_unique.specs.Repeat.{Taken, takes}
@@ -31,6 +31,18 @@ tokens-parts file = go (tokensOf file) refl
     go : (s : Split) → tokensOf file ≡ s → Each (PartOf file) (placed s)
     go (refused n place) e = tt
     go (accepted ps) e = split-parts file ps e
+
+-- a file has no more tokens than bytes
+few-tokens : (file : List ℕ) → length (placed (tokensOf file)) ≤ length file
+unfolding placed
+few-tokens file = go (tokensOf file) refl
+  where
+    go : (s : Split) → tokensOf file ≡ s → length (placed s) ≤ length file
+    go (refused n place) e = omega arith
+    go (accepted ps) e = split-count file ps e
+
+pub count-small : (file words : List ℕ) (count : ℕ) → Holds file words count → count ≤ 1048576
+count-small file words count h = omega (arith, few-tokens file, h .small, h .count-is)
 
 -- no token, which stands where there is none
 abbrev nowhere : Placed

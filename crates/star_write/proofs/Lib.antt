@@ -1,4 +1,5 @@
 pub mod Putting
 pub mod Lengths
 pub mod Prefix
+pub mod Outcomes
 pub mod RoundTrip

@@ -1,5 +1,5 @@
 -- The plain form of a file's first tokens: each token that a table holds goes behind those before it, within the whole.
-use mathlib.Core.Path.{_≡_, refl, sym, _∙_, ap}
+use mathlib.Core.Path.{_≡_, sym, _∙_, ap}
 use mathlib.Core.List.{List, [], _∷_, _++_, flatMap, append-nil}
 use Prim.Native.Nat.{ℕ, _+_, _*_, _≤_, _<_}
 use native.Mathlib.Numerals.{add-one}
@@ -8,9 +8,7 @@ use lib.ListN.{length, getD, take, drop, length-append, length-take, length-drop
 use lib.Seq.{take-suc, take-all}
 use Rattle.star_rows.proofs.Stored.{flat-append}
 use Rattle.star_lex.specs.Tokens.{Token}
-use Rattle.star_lex.specs.Split.{Split, refused, accepted, tokensOf, placed}
 use Rattle.star_lex.specs.Plain.{plainToken, plainOf}
-use Rattle.star_lex.proofs.Parts.{split-count}
 use Rattle.star_unique.specs.Holds.{Holds, fileTokens, tokenAt}
 use Rattle.star_unique.proofs.Held.{Row, held-row, count-tokens}
 use Rattle.star_write.specs.Put.{tokenOf}
@@ -35,14 +33,6 @@ plain-within n ts =
     let whole : plainFirst n ts ++ plainOf (drop n ts) ≡ plainOf ts = sym (plain-append (take n ts) (drop n ts)) ∙ ap plainOf (take-append-drop n ts) in
     omega (arith, simp length-append at (ap length whole))
 
-few : (file : List ℕ) → length (placed (tokensOf file)) ≤ length file
-unfolding placed
-few file = go (tokensOf file) refl
-  where
-    go : (s : Split) → tokensOf file ≡ s → length (placed s) ≤ length file
-    go (refused n place) e = omega arith
-    go (accepted ps) e = split-count file ps e
-
 -- one token more of a table, by its kind and content
 pub record Next (file : List ℕ) (n kind : ℕ) (content : List ℕ) : Type 0 where
   pub plain : plainFirst (n + 1) (fileTokens file) ≡ plainFirst n (fileTokens file) ++ plainToken (tokenOf kind content)
@@ -51,9 +41,6 @@ pub record Next (file : List ℕ) (n kind : ℕ) (content : List ℕ) : Type 0 w
   pub small : length content ≤ 1048576
 
 module _ (file words : List ℕ) (count : ℕ) (h : Holds file words count) where
-  pub count-small : count ≤ 1048576
-  count-small = omega (arith, few file, h .small, h .count-is)
-
   pub plain-all : (n : ℕ) → count ≤ n → plainFirst n (fileTokens file) ≡ plainOf (fileTokens file)
   plain-all n g = ap plainOf (take-all n (fileTokens file) (omega (arith, count-tokens file words count h)))
 

@@ -17,11 +17,12 @@ pub fill-none : (room : List ℕ) → Filled [] room room 0
 fill-none room = record { counts = refl; leaves = refl }
 
 -- past those bytes all is cleared
-pub fill-clear : (bytes room : List ℕ) → length bytes ≤ length room
-    → clearedFrom (length bytes) (bytes ++ drop (length bytes) room) ≡ bytes ++ replicate (length room - length bytes) 0
+pub fill-clear : (bytes room : List ℕ) (size : ℕ) {filled cleared : List ℕ} → size ≡ length bytes → size ≤ length room
+    → filled ≡ bytes ++ drop (length bytes) room → cleared ≡ clearedFrom size filled → cleared ≡ bytes ++ replicate (length room - size) 0
 unfolding clearedFrom
-fill-clear bytes room h =
-    rw (take-append-seam, length-append, length-drop) (ap (λ n. bytes ++ replicate n 0) (let e : length bytes + (length room - length bytes) - length bytes ≡ length room - length bytes = omega arith in e))
+fill-clear bytes room size e h f c =
+    let k : length bytes + (length room - length bytes) - length bytes ≡ length room - length bytes = omega arith in
+    c ∙ ap (clearedFrom size) f ∙ rw (e, take-append-seam, length-append, length-drop, k)
 
 module _ {bytes before after : List ℕ} {count : ℕ} (f : Filled bytes before after count) where
   first : take count after ≡ bytes

@@ -1,53 +1,26 @@
 -- The plain form is read back: it splits into tokens of the same kinds and contents, so by demand 3 it is accepted with the rows of the one
 -- reading that they have, and its own plain form is the same.
-use mathlib.Core.Path.{_≡_, refl, sym, _∙_, ap}
+use mathlib.Core.Path.{_≡_, sym, _∙_, ap}
 use mathlib.Core.List.{List}
 use Prim.Native.Nat.{ℕ, _*_, _≤_}
 use native.Mathlib.Omega.{arith}
-use borrow.Author.Tests.{leb-true, le-leb}
-use lib.Dec.{leb}
+use borrow.Author.Tests.{le-leb}
 use lib.ListN.{length, length-map}
 use Rattle.star_lex.specs.Tokens.{Token, Placed}
 use Rattle.star_lex.specs.Split.{tokensOf}
 use Rattle.star_lex.specs.Split as Split
 use Rattle.star_lex.specs.Plain.{plainOf}
-use Rattle.star_lex.proofs.Cases.{impossible, cond-cases}
 use Rattle.star_lex.proofs.WellFormed.{split-well-formed}
 use Rattle.star_lex.proofs.PlainSplit.{lex-plain}
 use Rattle.star_grammar.specs.Tables.{Rows, rowsOf}
 use Rattle.star_grammar.specs.Reading.{Reading}
-use Rattle.star_read.specs.Read.{Outcome, Sizes, tokensOnly, readOf}
+use Rattle.star_read.specs.Read.{Sizes, tokensOnly, readOf}
 use Rattle.star_read.specs.Read as Read
 use Rattle.star_read.specs.Demands.{Room, Fair}
 use Rattle.star_read.proofs.Demand3.{accepted-exactly, one-reading, rows-of-reading}
 use Rattle.star_write.specs.Write.{written, fitting, after, writeOf}
 use Rattle.star_write.specs.Demands.{ReadsBack, RoundTrip, WritesAgain}
-
--- what was written: the file was accepted, and its plain form is within the size limit
-record Wrote (file : List ℕ) (words : Sizes) (ps : List Placed) (rows : Rows) (plain : List ℕ) : Type 0 where
-  reads : readOf file words ≡ Read.accepted ps rows
-  plain-is : plainOf (tokensOnly ps) ≡ plain
-  small : length plain ≤ 1048576
-
-wrote : (file : List ℕ) (words : Sizes) (room : ℕ) (ps : List Placed) (rows : Rows) (plain : List ℕ)
-    → writeOf file words room ≡ written ps rows plain → Wrote file words ps rows plain
-unfolding writeOf after fitting
-wrote file words room ps rows plain e = go (readOf file words) refl e
-  where
-    go : (o : Outcome) → readOf file words ≡ o → after room o ≡ written ps rows plain → Wrote file words ps rows plain
-    go (Read.refused n place) d h = impossible cc
-    go (Read.accepted qs us) d h =
-        let p : List ℕ = plainOf (tokensOnly qs) in
-        cond-cases (leb (length p) 1048576) _ _ (written ps rows plain) h
-        (λ s k. cond-cases (leb (length p) room) _ _ (written ps rows plain) k
-        (λ r w.
-        let same : qs ≡ ps = cc in
-        let is : p ≡ plain = cc in
-        record {
-          reads = cc;
-          plain-is = ap (λ l. plainOf (tokensOnly l)) (sym same) ∙ is;
-          small = omega (arith, leb-true (length p) 1048576 s, ap length is);
-        }) (λ r w. impossible cc)) (λ s k. impossible cc)
+use Rattle.star_write.proofs.Outcomes.{Wrote, wrote}
 
 -- tokens of the same kinds and contents have the same readings
 moved : {ts us : List Token} → ts ≡ us → Reading ts → Reading us
@@ -76,7 +49,7 @@ module _ (plain : List ℕ) (words : Sizes) (ps qs : List Placed) (r : Reading (
 
 pub round-trip : RoundTrip
 round-trip file words room ps rows plain e others table rooms =
-    let w : Wrote file words ps rows plain = wrote file words room ps rows plain e in
+    let w : Wrote file words room ps rows plain = wrote file words room ps rows plain e in
     let r = rows-of-reading file words ps rows (w .reads) in
     let l = lex-plain (tokensOnly ps) (split-well-formed file ps (r .0)) in
     record {
@@ -90,7 +63,7 @@ round-trip file words room ps rows plain e others table rooms =
 pub writes-again : WritesAgain
 unfolding writeOf after fitting
 writes-again file words room ps rows plain e others table rooms space fits =
-    let w : Wrote file words ps rows plain = wrote file words room ps rows plain e in
+    let w : Wrote file words room ps rows plain = wrote file words room ps rows plain e in
     let b : ReadsBack plain others ps rows = round-trip file words room ps rows plain e others table rooms in
     let same : plainOf (tokensOnly (b .tokens)) ≡ plain = ap plainOf (b .same) ∙ w .plain-is in
     (b .tokens, rw (b .accepts, same, le-leb (length plain) 1048576 (w .small), le-leb (length plain) space fits))

@@ -1,3 +1,4 @@
 pub mod Write
+pub mod Answer
 pub mod Put
 pub mod Demands

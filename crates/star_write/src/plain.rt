@@ -1,4 +1,4 @@
-// The plain form of a file. These functions are called by proved layers only, which hand them table 1 of the file and lend room enough.
+// The plain form of a file's tokens.
 use super::token;
 ghost use mathlib.Core.Path.{_≡_};
 ghost use mathlib.Core.List.{_++_};
@@ -7,7 +7,7 @@ ghost use lib.ListN.{length, drop};
 ghost use Rattle.star_lex.specs.Plain.{plainOf};
 ghost use Rattle.star_unique.specs.Holds.{Holds, fileTokens};
 
-// How many bytes the tokens take.
+// How many bytes the tokens take. It is called by proved layers only, which hand it table 1 of the file.
 pub fn plain_length(file: &[u8], tokens: &[u32], count: usize) -> usize
     requires { ⌜ Holds (now file) (now tokens) count ⌝ }
     ensures { λ r. ⌜ r ≡ length (plainOf (fileTokens (now (file .entry)))) ⌝ }
@@ -22,7 +22,8 @@ pub fn plain_length(file: &[u8], tokens: &[u32], count: usize) -> usize
     total
 }
 
-// Writes the tokens in order, each into the room that is left.
+// Writes the tokens in order, each into the room that is left. It is called by proved layers only, which hand it table 1 of the file and lend room
+// enough.
 pub fn put_tokens(file: &[u8], tokens: &[u32], count: usize, out: &mut [u8])
     requires { ⌜ Holds (now file) (now tokens) count ⌝ }
     requires { ⌜ length (plainOf (fileTokens (now file))) ≤ length (now out) ⌝ }

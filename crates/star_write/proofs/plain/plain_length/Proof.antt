@@ -7,9 +7,10 @@ use native.Mathlib.Omega.{arith}
 use lib.ListN.{length, getD}
 use Rattle.star_lex.specs.Plain.{plainOf}
 use Rattle.star_unique.specs.Holds.{fileTokens}
+use Rattle.star_unique.proofs.Held.{count-small}
 use Rattle.star_write.specs.Put.{tokenOf}
 use Rattle.star_write.proofs.Lengths.{short-plain}
-use Rattle.star_write.proofs.Prefix.{plainFirst, Next, next, count-small, plain-all}
+use Rattle.star_write.proofs.Prefix.{plainFirst, Next, next, plain-all}
 use Rattle.star_write.proofs.plain.plain_length.Statement.{statement}
 use Rattle.star_write.proofs.plain.plain_length.Tie as tie
 

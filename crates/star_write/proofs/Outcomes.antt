@@ -1,0 +1,196 @@
+-- What an answer tells of the outcome. Reading's answer decides the writer's, with the length of the plain form; and from the writer's own answer
+-- follow the tables and the output.
+use mathlib.Core.Path.{_≡_, refl, sym, _∙_, ap, subst}
+use mathlib.Core.List.{List, _++_}
+use Prim.Native.Nat.{ℕ, _-_, _≤_, _<_}
+use native.Mathlib.Nat.{sub-zero}
+use native.Mathlib.Omega.{arith}
+use borrow.Author.Tests.{leb-true, le-leb, lt-leb}
+use lib.Dec.{leb}
+use lib.ListN.{length, replicate}
+use Rattle.star_rows.specs.Rows.{holding}
+use Rattle.star_lex.specs.Tokens.{Placed, tokenRow}
+use Rattle.star_lex.specs.Split.{placed}
+use Rattle.star_lex.specs.Plain.{plainOf}
+use Rattle.star_lex.proofs.Cases.{impossible, cond-cases}
+use Rattle.star_grammar.specs.Tables.{Rows}
+use Rattle.star_unique.specs.Holds.{Holds, fileTokens}
+use Rattle.star_read.specs.Read.{Outcome, Sizes, tokensOnly, readOf}
+use Rattle.star_read.specs.Read as Read
+use Rattle.star_read.specs.Answer.{Tables, tablesOf, Leaves}
+use Rattle.star_read.specs.Answer as Answer
+use Rattle.star_read.specs.declared.Reading.{Reading}
+use Rattle.star_read.proofs.Demand3.{rows-of-reading}
+use Rattle.star_read.proofs.Accepted.{read-number, answer-refused, answer-accepted, accepted-holds}
+use Rattle.star_write.specs.Write.{Writing, refused, written, fitting, after, writeOf}
+use Rattle.star_write.specs.Answer.{readingOf, bytesOf, outputOf, answerOf}
+use Rattle.star_write.specs.declared.Written.{Written}
+
+-- what was written: the file was accepted, and its plain form is within the size limit and the output
+pub record Wrote (file : List ℕ) (words : Sizes) (room : ℕ) (ps : List Placed) (rows : Rows) (plain : List ℕ) : Type 0 where
+  pub reads : readOf file words ≡ Read.accepted ps rows
+  pub plain-is : plainOf (tokensOnly ps) ≡ plain
+  pub small : length plain ≤ 1048576
+  pub fits : length plain ≤ room
+
+pub wrote : (file : List ℕ) (words : Sizes) (room : ℕ) (ps : List Placed) (rows : Rows) (plain : List ℕ)
+    → writeOf file words room ≡ written ps rows plain → Wrote file words room ps rows plain
+unfolding writeOf after fitting
+wrote file words room ps rows plain e = go (readOf file words) refl e
+  where
+    go : (o : Outcome) → readOf file words ≡ o → after room o ≡ written ps rows plain → Wrote file words room ps rows plain
+    go (Read.refused n place) d h = impossible cc
+    go (Read.accepted qs us) d h =
+        let p : List ℕ = plainOf (tokensOnly qs) in
+        cond-cases (leb (length p) 1048576) _ _ (written ps rows plain) h
+        (λ s k. cond-cases (leb (length p) room) _ _ (written ps rows plain) k
+        (λ r w.
+        let same : qs ≡ ps = cc in
+        let is : p ≡ plain = cc in
+        record {
+          reads = cc;
+          plain-is = ap (λ l. plainOf (tokensOnly l)) (sym same) ∙ is;
+          small = omega (arith, leb-true (length p) 1048576 s, ap length is);
+          fits = omega (arith, leb-true (length p) room r, ap length is);
+        }) (λ r w. impossible cc)) (λ s k. impossible cc)
+
+-- the plain form of an accepted file is that of its tokens
+plain-file : (file : List ℕ) (words : Sizes) (ps : List Placed) (rows : Rows) → readOf file words ≡ Read.accepted ps rows
+    → plainOf (tokensOnly ps) ≡ plainOf (fileTokens file)
+unfolding placed
+plain-file file words ps rows e = ap (λ s. plainOf (tokensOnly (placed s))) (sym (rows-of-reading file words ps rows e .0))
+
+-- table 1 as reading has left it holds the tokens
+pub left-holds : (file : List ℕ) (words : Sizes) (ps : List Placed) (rows : Rows) (t : Tables) (count : ℕ)
+    → readOf file words ≡ Read.accepted ps rows → Leaves (readOf file words) words t → count ≡ length ps → Holds file (t .tokens) count
+unfolding tablesOf
+left-holds file words ps rows t count e l c =
+    let table : t .tokens ≡ holding tokenRow ps (words .tokens) = l .tokens ∙ ap (λ o. tablesOf o words .tokens) e in
+    rw (table, c) (accepted-holds file words ps rows e)
+
+-- the answer of a written file by reading's counts and the size
+abbrev pub counted : ℕ → Reading → Written
+counted size r = record {
+  refusal = 0;
+  place = 0;
+  length = size;
+  tokens = r .tokens;
+  sets = r .sets;
+  names = r .names;
+  packets = r .packets;
+  values = r .values;
+}
+
+-- the writer after reading's answer
+module _ (file : List ℕ) (words : Sizes) (r : Reading) (e : r ≡ Answer.answerOf (readOf file words)) where
+  pub refuses-reading : (room : ℕ) → (r .refusal ≡ 0 → ⊥) → writeOf file words room ≡ refused (r .refusal) (r .place)
+  unfolding writeOf after
+  refuses-reading room f = rw (answer-refused (readOf file words) r e f)
+
+  pub read-holds : (t : Tables) → Leaves (readOf file words) words t → r .refusal ≡ 0 → Holds file (t .tokens) (r .tokens)
+  unfolding Answer.answerOf
+  read-holds t l z =
+      let a = answer-accepted file words r e z in
+      left-holds file words (a .0) (a .1) t (r .tokens) (a .2) l (ap (λ s. s .tokens) (e ∙ ap Answer.answerOf (a .2)))
+
+  module _ (room : ℕ) (z : r .refusal ≡ 0) where
+    accepts : (ps : List Placed) × (rows : Rows) × (readOf file words ≡ Read.accepted ps rows)
+    accepts = answer-accepted file words r e z
+
+    after-reading : writeOf file words room ≡ fitting room (accepts .0) (accepts .1) (plainOf (fileTokens file))
+    unfolding writeOf after
+    after-reading = rw (accepts .2, plain-file file words (accepts .0) (accepts .1) (accepts .2))
+
+    pub too-long : 1048576 < length (plainOf (fileTokens file)) → writeOf file words room ≡ refused 1 0
+    unfolding fitting
+    too-long h = rw (after-reading, lt-leb _ _ h)
+
+    pub too-short : length (plainOf (fileTokens file)) ≤ 1048576 → room < length (plainOf (fileTokens file)) → writeOf file words room ≡ refused 7 6
+    unfolding fitting
+    too-short h k = rw (after-reading, le-leb _ _ h, lt-leb _ _ k)
+
+    pub fits-output : length (plainOf (fileTokens file)) ≤ 1048576 → length (plainOf (fileTokens file)) ≤ room
+        → counted (length (plainOf (fileTokens file))) r ≡ answerOf (writeOf file words room)
+    unfolding fitting answerOf readingOf bytesOf Answer.answerOf
+    fits-output h k =
+        let o : writeOf file words room ≡ written (accepts .0) (accepts .1) (plainOf (fileTokens file))
+        = rw (after-reading, le-leb _ _ h, le-leb _ _ k) in
+        ap (counted (length (plainOf (fileTokens file)))) (e ∙ ap Answer.answerOf (accepts .2)) ∙ sym (ap answerOf o)
+
+-- the writer's refusals have numbers other than 0
+write-number : (file : List ℕ) (words : Sizes) (room n place : ℕ) → writeOf file words room ≡ refused n place → n ≡ 0 → ⊥
+unfolding writeOf after fitting
+write-number file words room n place e z = go (readOf file words) refl e
+  where
+    go : (o : Outcome) → readOf file words ≡ o → after room o ≡ refused n place → ⊥
+    go (Read.refused m q) d h = let k : m ≡ n = cc in read-number file words m q d (k ∙ z)
+    go (Read.accepted ps rows) d h =
+        let p : List ℕ = plainOf (tokensOnly ps) in
+        cond-cases (leb (length p) 1048576) _ _ (refused n place) h
+        (λ s k. cond-cases (leb (length p) room) _ _ (refused n place) k (λ r w. impossible cc) (λ r w. let m : 7 ≡ n = cc in omega arith))
+        (λ s k. let m : 1 ≡ n = cc in omega arith)
+
+-- an answer of another number: the outcome is that refusal
+pub writing-refused : (o : Writing) (a : Written) → a ≡ answerOf o → (a .refusal ≡ 0 → ⊥) → o ≡ refused (a .refusal) (a .place)
+unfolding answerOf readingOf bytesOf Answer.answerOf
+writing-refused (refused n place) a e f =
+    let k : a .refusal ≡ n = ap (λ t. t .refusal) e in
+    let l : a .place ≡ place = ap (λ t. t .place) e in
+    cc
+writing-refused (written ps rows plain) a e f = absurd (f (ap (λ t. t .refusal) e))
+
+-- an answer of refusal 0: the file is written
+pub record Success (file : List ℕ) (words : Sizes) (room : ℕ) (a : Written) : Type 0 where
+  pub ps : List Placed
+  pub rows : Rows
+  pub outcome : writeOf file words room ≡ written ps rows (plainOf (fileTokens file))
+  pub reads : readOf file words ≡ Read.accepted ps rows
+  pub count : a .tokens ≡ length ps
+  pub size : a .length ≡ length (plainOf (fileTokens file))
+  pub fits : a .length ≤ room
+
+pub success : (file : List ℕ) (words : Sizes) (room : ℕ) (a : Written) → a ≡ answerOf (writeOf file words room) → a .refusal ≡ 0
+    → Success file words room a
+unfolding answerOf readingOf bytesOf Answer.answerOf
+success file words room a e z = go (writeOf file words room) refl e
+  where
+    go : (o : Writing) → writeOf file words room ≡ o → a ≡ answerOf o → Success file words room a
+    go (refused n place) d h = absurd (write-number file words room n place d (sym (ap (λ t. t .refusal) h) ∙ z))
+    go (written ps rows plain) d h =
+        let w : Wrote file words room ps rows plain = wrote file words room ps rows plain d in
+        let same : plain ≡ plainOf (fileTokens file) = sym (w .plain-is) ∙ plain-file file words ps rows (w .reads) in
+        let long : a .length ≡ length plain = ap (λ t. t .length) h in
+        record {
+          ps = ps;
+          rows = rows;
+          outcome = d ∙ ap (written ps rows) same;
+          reads = w .reads;
+          count = ap (λ t. t .tokens) h;
+          size = long ∙ ap length same;
+          fits = omega (arith, w .fits);
+        }
+
+-- a list of so many zeros
+pub zeros : {xs : List ℕ} {m n : ℕ} → m ≡ n → xs ≡ replicate m 0 → xs ≡ replicate n 0
+zeros e z = z ∙ ap (λ n. replicate n 0) e
+
+-- the tables and the output, refused and written
+pub refused-tables : {o : Writing} {n place : ℕ} {words : Sizes} {t : Tables} → o ≡ refused n place → Leaves (Read.refused n place) words t
+    → Leaves (readingOf o) words t
+unfolding readingOf
+refused-tables {words = words} {t = t} e l = subst (λ o. Leaves (readingOf o) words t) (sym e) l
+
+pub refused-output : (room : ℕ) {o : Writing} {n place : ℕ} {out : List ℕ} → o ≡ refused n place → out ≡ replicate room 0 → out ≡ outputOf o room
+unfolding outputOf bytesOf
+refused-output room e z = zeros (sym (sub-zero room)) z ∙ sym (ap (λ o. outputOf o room) e)
+
+module _ {file : List ℕ} {words : Sizes} {room : ℕ} {a : Written} (d : Success file words room a) where
+  pub written-tables : {t : Tables} → Leaves (readOf file words) words t → Leaves (readingOf (writeOf file words room)) words t
+  unfolding readingOf
+  written-tables {t} l = subst (λ o. Leaves o words t) (d .reads ∙ sym (ap readingOf (d .outcome))) l
+
+  pub written-output : {out : List ℕ} → out ≡ plainOf (fileTokens file) ++ replicate (room - a .length) 0
+      → out ≡ outputOf (writeOf file words room) room
+  unfolding outputOf bytesOf
+  written-output z =
+      z ∙ ap (λ n. plainOf (fileTokens file) ++ replicate (room - n) 0) (d .size) ∙ sym (ap (λ o. outputOf o room) (d .outcome))
