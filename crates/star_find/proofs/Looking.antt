@@ -200,3 +200,22 @@ locate-row l c name k e = byFit (countsFit l c) refl (isRow (c .names) name) ref
 
 pub found-row : (l : Lent) (c : Counts) (name k : ℕ) (f : Found) → f ≡ locate l c name k → f .refusal ≡ 0 → Located l c (f .row)
 found-row l c name k f e z = rw e (locate-row l c name k (sym (ap (λ g. g .refusal) e) ∙ z))
+
+-- the value row that was located and its token row are rows of their tables
+pub record Reached (values tokens : List ℕ) (row : ℕ) : Type 0 where
+  pub row-low : 1 ≤ row
+  pub row-within : (row - 1) * 3 + 2 < length values
+  pub token-low : 1 ≤ getD values ((row - 1) * 3 + 2) 0
+  pub token-within : (getD values ((row - 1) * 3 + 2) 0 - 1) * 3 + 2 < length tokens
+
+pub reached : (l : Lent) (c : Counts) (name k : ℕ) (f : Found) → f ≡ locate l c name k → f .refusal ≡ 0 → Reached (l .values) (l .tokens) (f .row)
+unfolding wordOf
+reached l c name k f e z =
+    let r : Located l c (f .row) = found-row l c name k f e z in
+    let p : Inside (l .file) (l .tokens) (c .tokens) (wordOf (l .values) 3 (f .row) 2) = part-inside _ _ _ _ (r .inside) in
+    record {
+      row-low = r .low;
+      row-within = omega (arith, r .low, r .high, r .fitting .values-fit);
+      token-low = p .low;
+      token-within = omega (arith, p .low, p .high, r .fitting .tokens-fit);
+    }

@@ -10,6 +10,7 @@ use Rattle.star_unique.specs.Repeat.{same}
 use Rattle.star_find.specs.declared.Counts.{Counts}
 use Rattle.star_find.specs.declared.Found.{Found}
 use Rattle.star_find.specs.declared.Value.{Value}
+use Rattle.star_find.specs.declared.Span.{Span}
 use Rattle.star_find.specs.declared.Match.{Match}
 use Rattle.star_find.specs.declared.Match.the-variants.{Outside, Equal, Other}
 
@@ -128,6 +129,13 @@ unfoldable pub valuePart : Lent → Counts → (name k : ℕ) → List ℕ
 valuePart l c name k =
     let f : Found = locate l c name k in
     cond (eqb (f .refusal) 0) (orEmpty (contentAt (l .file) (l .tokens) (c .tokens) (wordOf (l .values) 3 (f .row) 2))) []
+
+-- where the part of a value lies in the file; a refused value has 0 and 0
+unfoldable pub valueSpan : Lent → Counts → (name k : ℕ) → Span
+valueSpan l c name k =
+    let f : Found = locate l c name k in
+    let token : ℕ = wordOf (l .values) 3 (f .row) 2 in
+    cond (eqb (f .refusal) 0) (record { start = wordOf (l .tokens) 3 token 1; end = wordOf (l .tokens) 3 token 2 }) (record { start = 0; end = 0 })
 
 -- how a content compares
 unfoldable pub matchOf : (wanted : List ℕ) → Option (List ℕ) → Match

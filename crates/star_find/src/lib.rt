@@ -4,12 +4,13 @@ ghost use mathlib.Core.Bool.{cond, true, _&&_};
 ghost use Prim.Native.Nat.{_*_, _+_, _-_, _≤_};
 ghost use lib.Dec.{eqb};
 ghost use lib.ListN.{length};
-ghost use Rattle.star_find.specs.Find.{lent, fits, isRow, contentAt, findBlock, findFrame, findName, isWanted, matchOf, wordOf, seek as Find·seek, kth, located as Find·located, locate as Find·locate, valueAt, valueOf, valuePart};
+ghost use Rattle.star_find.specs.Find.{lent, fits, isRow, contentAt, findBlock, findFrame, findName, isWanted, matchOf, wordOf, seek as Find·seek, kth, located as Find·located, locate as Find·locate, valueAt, valueOf, valuePart, valueSpan};
 ghost use Rattle.star_lex.specs.Found.{isSome};
 ghost use mathlib.Core.Option.{some};
 ghost use Rattle.star_find.specs.declared.Match.the-variants.{Other};
 
 // How many rows each table has.
+#[repr(C)]
 pub struct Counts {
     pub tokens: u32,
     pub sets: u32,
@@ -19,16 +20,25 @@ pub struct Counts {
 }
 
 // What a lookup answers: refusal and row, 0 where it is refused.
+#[repr(C)]
 pub struct Found {
     pub refusal: u32,
     pub row: u32,
 }
 
 // What a value is: refusal, kind and packet, both 0 where it is refused.
+#[repr(C)]
 pub struct Value {
     pub refusal: u32,
     pub kind: u32,
     pub packet: u32,
+}
+
+// Where the part of a value lies in the file: its first byte and the byte after it, both 0 where it is refused.
+#[repr(C)]
+pub struct Span {
+    pub start: usize,
+    pub end: usize,
 }
 
 // Which rows of a table are looked at: those whose first word is `first` and, by parent, whose third is `parent`.
@@ -463,4 +473,31 @@ pub fn value_part<'a, 'b>(
     }
     let at = (found.row as usize - 1) * 3;
     part(file, tokens, counts.tokens, values[at + 2])
+}
+
+// Where the k-th value of a name row, k from 1, lies in the file, for those who cannot be handed a part of it.
+pub fn value_span(
+    file: &[u8],
+    tokens: &[u32],
+    sets: &[u32],
+    names: &[u32],
+    packets: &[u32],
+    values: &[u32],
+    counts: Counts,
+    name: u32,
+    k: u32,
+) -> Span
+    ensures { λ r. ⌜ r ≡ valueSpan (lent (now (file .entry)) (now (tokens .entry)) (now (sets .entry)) (now (names .entry)) (now (packets .entry))
+        (now (values .entry))) counts name k ⌝ }
+{
+    let found = locate(file, tokens, sets, names, packets, values, counts, name, k);
+    if found.refusal != 0 {
+        return Span { start: 0, end: 0 };
+    }
+    let at = (found.row as usize - 1) * 3;
+    let token = (values[at + 2] as usize - 1) * 3;
+    Span {
+        start: tokens[token + 1] as usize,
+        end: tokens[token + 2] as usize,
+    }
 }

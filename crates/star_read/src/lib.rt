@@ -12,6 +12,7 @@ ghost use Rattle.star_grammar.specs.Parsed.{tables as four};
 use star_grammar::Parsed;
 
 // What reading answers: refusal and place, both 0 when accepted, and the number of rows of each table.
+#[repr(C)]
 pub struct Reading {
     pub refusal: u32,
     pub place: u32,

@@ -16,6 +16,7 @@ ghost use Rattle.star_write.specs.Write.{refused, writeOf};
 ghost use Rattle.star_write.specs.Answer.{answerOf, readingOf, outputOf};
 
 // What writing answers: refusal and place, both 0 when written, the length of the plain form, and the number of rows of each table.
+#[repr(C)]
 pub struct Written {
     pub refusal: u32,
     pub place: u32,

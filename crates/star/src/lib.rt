@@ -1,0 +1,174 @@
+// What other languages call: each function is the library's own of that name, with its contract. include/star.h is the C header.
+use star_find::Counts;
+use star_find::Found;
+use star_find::Span;
+use star_find::Value;
+use star_read::Reading;
+use star_write::Written;
+ghost use mathlib.Core.Path.{_≡_};
+ghost use lib.ListN.{length};
+ghost use Rattle.star_read.specs.Read.{readOf};
+ghost use Rattle.star_read.specs.Answer.{answerOf, tables, sizes, Leaves};
+ghost use Rattle.star_find.specs.Find.{lent, findBlock, findFrame, findName, valueAt, valueSpan};
+ghost use Rattle.star_write.specs.Write.{writeOf};
+ghost use Rattle.star_write.specs.Answer.{answerOf as written·answerOf, readingOf, outputOf};
+
+// Reads a file into the five tables. On a refusal the counts and every word of every table are 0.
+#[no_mangle]
+pub extern "C" fn star_read(
+    file: &[u8],
+    tokens: &mut [u32],
+    sets: &mut [u32],
+    names: &mut [u32],
+    packets: &mut [u32],
+    values: &mut [u32],
+) -> Reading
+    ensures { λ r. ⌜ r ≡ answerOf (readOf (now (file .entry))
+        (sizes (tables (now (tokens .entry)) (now (sets .entry)) (now (names .entry)) (now (packets .entry)) (now (values .entry))))) ⌝ }
+    ensures { λ _. ⌜ Leaves (readOf (now (file .entry))
+        (sizes (tables (now (tokens .entry)) (now (sets .entry)) (now (names .entry)) (now (packets .entry)) (now (values .entry)))))
+        (sizes (tables (now (tokens .entry)) (now (sets .entry)) (now (names .entry)) (now (packets .entry)) (now (values .entry))))
+        (tables (now (tokens .exit)) (now (sets .exit)) (now (names .exit)) (now (packets .exit)) (now (values .exit))) ⌝ }
+{
+    star_read::read(file, tokens, sets, names, packets, values)
+}
+
+// The first block with this code.
+#[no_mangle]
+pub extern "C" fn star_find_block(
+    file: &[u8],
+    tokens: &[u32],
+    sets: &[u32],
+    names: &[u32],
+    packets: &[u32],
+    values: &[u32],
+    counts: Counts,
+    code: &[u8],
+) -> Found
+    ensures { λ r. ⌜ r ≡ findBlock (lent (now (file .entry)) (now (tokens .entry)) (now (sets .entry)) (now (names .entry)) (now (packets .entry))
+        (now (values .entry))) counts (now (code .entry)) ⌝ }
+{
+    star_find::find_block(file, tokens, sets, names, packets, values, counts, code)
+}
+
+// The first frame of a set with this code.
+#[no_mangle]
+pub extern "C" fn star_find_frame(
+    file: &[u8],
+    tokens: &[u32],
+    sets: &[u32],
+    names: &[u32],
+    packets: &[u32],
+    values: &[u32],
+    counts: Counts,
+    set: u32,
+    code: &[u8],
+) -> Found
+    ensures { λ r. ⌜ r ≡ findFrame (lent (now (file .entry)) (now (tokens .entry)) (now (sets .entry)) (now (names .entry)) (now (packets .entry))
+        (now (values .entry))) counts set (now (code .entry)) ⌝ }
+{
+    star_find::find_frame(
+        file,
+        tokens,
+        sets,
+        names,
+        packets,
+        values,
+        counts,
+        set,
+        code,
+    )
+}
+
+// The first name of a set with these bytes.
+#[no_mangle]
+pub extern "C" fn star_find_name(
+    file: &[u8],
+    tokens: &[u32],
+    sets: &[u32],
+    names: &[u32],
+    packets: &[u32],
+    values: &[u32],
+    counts: Counts,
+    set: u32,
+    name: &[u8],
+) -> Found
+    ensures { λ r. ⌜ r ≡ findName (lent (now (file .entry)) (now (tokens .entry)) (now (sets .entry)) (now (names .entry)) (now (packets .entry))
+        (now (values .entry))) counts set (now (name .entry)) ⌝ }
+{
+    star_find::find_name(
+        file,
+        tokens,
+        sets,
+        names,
+        packets,
+        values,
+        counts,
+        set,
+        name,
+    )
+}
+
+// Kind and packet of the k-th value of a name row, k from 1.
+#[no_mangle]
+pub extern "C" fn star_value_at(
+    file: &[u8],
+    tokens: &[u32],
+    sets: &[u32],
+    names: &[u32],
+    packets: &[u32],
+    values: &[u32],
+    counts: Counts,
+    name: u32,
+    k: u32,
+) -> Value
+    ensures { λ r. ⌜ r ≡ valueAt (lent (now (file .entry)) (now (tokens .entry)) (now (sets .entry)) (now (names .entry)) (now (packets .entry))
+        (now (values .entry))) counts name k ⌝ }
+{
+    star_find::value_at(file, tokens, sets, names, packets, values, counts, name, k)
+}
+
+// Where the k-th value of a name row, k from 1, lies in the file; 0 and 0 where it is refused.
+#[no_mangle]
+pub extern "C" fn star_value_part(
+    file: &[u8],
+    tokens: &[u32],
+    sets: &[u32],
+    names: &[u32],
+    packets: &[u32],
+    values: &[u32],
+    counts: Counts,
+    name: u32,
+    k: u32,
+) -> Span
+    ensures { λ r. ⌜ r ≡ valueSpan (lent (now (file .entry)) (now (tokens .entry)) (now (sets .entry)) (now (names .entry)) (now (packets .entry))
+        (now (values .entry))) counts name k ⌝ }
+{
+    star_find::value_span(file, tokens, sets, names, packets, values, counts, name, k)
+}
+
+// Reads a file into the five tables and writes its plain form. On a refusal length, counts, tables and output are all 0.
+#[no_mangle]
+pub extern "C" fn star_write(
+    file: &[u8],
+    tokens: &mut [u32],
+    sets: &mut [u32],
+    names: &mut [u32],
+    packets: &mut [u32],
+    values: &mut [u32],
+    out: &mut [u8],
+) -> Written
+    ensures { λ r. ⌜ r ≡ written·answerOf (writeOf (now (file .entry))
+        (sizes (tables (now (tokens .entry)) (now (sets .entry)) (now (names .entry)) (now (packets .entry)) (now (values .entry))))
+        (length (now (out .entry)))) ⌝ }
+    ensures { λ _. ⌜ Leaves (readingOf (writeOf (now (file .entry))
+        (sizes (tables (now (tokens .entry)) (now (sets .entry)) (now (names .entry)) (now (packets .entry)) (now (values .entry))))
+        (length (now (out .entry)))))
+        (sizes (tables (now (tokens .entry)) (now (sets .entry)) (now (names .entry)) (now (packets .entry)) (now (values .entry))))
+        (tables (now (tokens .exit)) (now (sets .exit)) (now (names .exit)) (now (packets .exit)) (now (values .exit))) ⌝ }
+    ensures { λ _. ⌜ now (out .exit) ≡ outputOf (writeOf (now (file .entry))
+        (sizes (tables (now (tokens .entry)) (now (sets .entry)) (now (names .entry)) (now (packets .entry)) (now (values .entry))))
+        (length (now (out .entry)))) (length (now (out .entry))) ⌝ }
+{
+    star_write::write(file, tokens, sets, names, packets, values, out)
+}
