@@ -3,7 +3,7 @@ use mathlib.Core.Path.{_≡_}
 use mathlib.Core.List.{List, [], _∷_, _++_, map, flatMap, List·Memᴰ}
 use Prim.Native.Nat.{ℕ}
 use Rattle.star_lex.specs.Tokens.{Token, Each}
-use Rattle.star_grammar.specs.Tree.{Loop, Entry, item, looped, Frame, Member, own, framed, Block, File, fileYield, FileWhole}
+use Rattle.star_grammar.specs.Tree.{Entry, item, looped, Member, own, framed, Block, File, fileYield, FileWhole}
 
 -- no content stands twice in the list
 abbrev pub Distinct : List (List ℕ) → Type 0

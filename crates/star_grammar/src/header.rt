@@ -80,7 +80,7 @@ fn read_packets(
 }
 
 // A loop: its header from `loop_` on, and its packets.
-pub fn read_loop(
+pub(crate) fn read_loop(
     tokens: &[u32],
     count: usize,
     set: u32,

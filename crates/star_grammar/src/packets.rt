@@ -150,7 +150,7 @@ fn read_packet(
 }
 
 // The packets of a level, up to a token that is no value.
-pub fn read_level(
+pub(crate) fn read_level(
     tokens: &[u32],
     count: usize,
     s: LoopState,

@@ -46,7 +46,7 @@ pub struct Progress {
 }
 
 // Before the first token.
-pub fn begin() -> Progress
+pub(crate) fn begin() -> Progress
     ensures { λ r. ⌜ Fresh r ⌝ }
 {
     Progress {
@@ -76,7 +76,7 @@ fn sort_of(kind: u32) -> u32
 }
 
 // The sort of the token at a place, or the end.
-pub fn sort_at(tokens: &[u32], count: usize, at: u32) -> u32
+pub(crate) fn sort_at(tokens: &[u32], count: usize, at: u32) -> u32
     requires { ⌜ count * 3 ≤ length (now tokens) ⌝ }
     ensures { λ r. ⌜ SortAt count (now (tokens .entry)) at r ⌝ }
 {
@@ -90,7 +90,7 @@ pub fn sort_at(tokens: &[u32], count: usize, at: u32) -> u32
 }
 
 // Refused with this number at the next token, of this sort: `global_` has its own number everywhere.
-pub fn misplaced(p: Progress, number: u32, sort: u32) -> Progress
+pub(crate) fn misplaced(p: Progress, number: u32, sort: u32) -> Progress
     ensures { λ r. ⌜ Misplaced p number sort r ⌝ }
 {
     let mut q = p;
@@ -103,7 +103,7 @@ pub fn misplaced(p: Progress, number: u32, sort: u32) -> Progress
 }
 
 // Past a token that makes no row.
-pub fn passed(p: Progress) -> Progress
+pub(crate) fn passed(p: Progress) -> Progress
     requires { ⌜ Room p ⌝ }
     ensures { λ r. ⌜ Moved p 1 0 0 0 0 0 r ⌝ }
 {
@@ -113,7 +113,7 @@ pub fn passed(p: Progress) -> Progress
 }
 
 // Past a `loop_` that begins a loop.
-pub fn opened(p: Progress) -> Progress
+pub(crate) fn opened(p: Progress) -> Progress
     requires { ⌜ Room p ⌝ }
     ensures { λ r. ⌜ Moved p 1 1 0 0 0 0 r ⌝ }
 {
@@ -124,7 +124,7 @@ pub fn opened(p: Progress) -> Progress
 }
 
 // Past a heading: the row of its set.
-pub fn put_set(p: Progress, kind: u32, parent: u32, sets: &mut [u32]) -> Progress
+pub(crate) fn put_set(p: Progress, kind: u32, parent: u32, sets: &mut [u32]) -> Progress
     requires { ⌜ Room p ⌝ }
     ensures { λ r. ⌜ Put (kind ∷ (p .at + 1) ∷ parent ∷ []) (p .sets) (now (sets .entry)) (now (sets .exit)) (Moved p 1 0 1 0 0 0 r) ⌝ }
 {
@@ -137,7 +137,13 @@ pub fn put_set(p: Progress, kind: u32, parent: u32, sets: &mut [u32]) -> Progres
 }
 
 // Past a name: its row.
-pub fn put_name(p: Progress, set: u32, number: u32, level: u32, names: &mut [u32]) -> Progress
+pub(crate) fn put_name(
+    p: Progress,
+    set: u32,
+    number: u32,
+    level: u32,
+    names: &mut [u32],
+) -> Progress
     requires { ⌜ Room p ⌝ }
     ensures { λ r. ⌜ Put (set ∷ (p .at + 1) ∷ number ∷ level ∷ []) (p .names) (now (names .entry)) (now (names .exit)) (Moved p 1 0 0 1 0 0 r) ⌝ }
 {
@@ -150,7 +156,7 @@ pub fn put_name(p: Progress, set: u32, number: u32, level: u32, names: &mut [u32
 }
 
 // Before the first value of a packet: the packet's row.
-pub fn put_packet(p: Progress, level: u32, parent: u32, packets: &mut [u32]) -> Progress
+pub(crate) fn put_packet(p: Progress, level: u32, parent: u32, packets: &mut [u32]) -> Progress
     requires { ⌜ Room p ⌝ }
     ensures { λ r. ⌜ Put (p .loops ∷ level ∷ parent ∷ []) (p .packets) (now (packets .entry)) (now (packets .exit)) (Moved p 0 0 0 0 1 0 r) ⌝ }
 {
@@ -162,7 +168,7 @@ pub fn put_packet(p: Progress, level: u32, parent: u32, packets: &mut [u32]) -> 
 }
 
 // Past a value: its row.
-pub fn put_value(p: Progress, name: u32, packet: u32, values: &mut [u32]) -> Progress
+pub(crate) fn put_value(p: Progress, name: u32, packet: u32, values: &mut [u32]) -> Progress
     requires { ⌜ Room p ⌝ }
     ensures { λ r. ⌜ Put (name ∷ packet ∷ (p .at + 1) ∷ []) (p .values) (now (values .entry)) (now (values .exit)) (Moved p 1 0 0 0 0 1 r) ⌝ }
 {

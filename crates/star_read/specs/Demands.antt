@@ -1,6 +1,6 @@
 -- What is demanded of reading: statements alone, over readings (star_grammar's specs/Reading.antt) and the split of a file.
 use mathlib.Core.Path.{_≡_}
-use mathlib.Core.Logic.{_⊎_, _↔_}
+use mathlib.Core.Logic.{_↔_}
 use mathlib.Core.List.{List, [], _∷_, _++_}
 use Prim.Native.Nat.{ℕ, _*_, _≤_}
 use lib.ListN.{length}
@@ -10,7 +10,7 @@ use Rattle.star_lex.specs.Split as Split
 use Rattle.star_grammar.specs.Tree.{File, fileYield, FileWhole, IsName, IsValue}
 use Rattle.star_grammar.specs.Tables.{Rows, rowsOf}
 use Rattle.star_grammar.specs.Reading.{Reading}
-use Rattle.star_read.specs.Read.{Outcome, refused, accepted, Sizes, tokensOnly, readOf}
+use Rattle.star_read.specs.Read.{refused, accepted, Sizes, tokensOnly, readOf}
 
 -- a row of tokens begins a file, of any length, that splits into tokens and has a reading, when the file's first tokens have the same kinds
 -- and contents
