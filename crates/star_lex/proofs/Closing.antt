@@ -7,12 +7,15 @@ use Prim.Native.Nat.{ℕ, zero, suc, _+_, _≤_, _<_}
 use native.Mathlib.Nat.{add-zero, add-suc, suc-add}
 use native.Mathlib.Numerals.{add-one}
 use native.Mathlib.Omega.{arith}
-use lib.Dec.{eqb}
+use borrow.Author.Tests.{not-true, not-false}
+use lib.Dec.{eqb, ltb}
 use lib.ListN.{length, getD, drop, drop-of-length-le}
 use lib.Seq.{drop-cons}
-use Rattle.star_text.specs.Bytes.{isTerminate, isWhite}
+use Rattle.star_text.specs.Bytes.{isTerminate, isWhite, classOf, run}
+use Rattle.star_text.proofs.Run.{run-keeps, run-fails, below-terminate}
 use Rattle.star_lex.specs.Split.{quoted, field, starts, whiteNext}
 use Rattle.star_lex.specs.Found.{endOf}
+use Rattle.star_lex.specs.LineEnd.{LineEnd}
 
 module _ (file : List ℕ) (at : ℕ) where
   pub white-in : at < length file → whiteNext (drop at file) ≡ isWhite (getD file at 0)
@@ -69,3 +72,24 @@ module _ (size : ℕ) (file : List ℕ) (at : ℕ) where
   pub field-over : length file ≤ at → endOf size at (field (drop at file)) ≡ size
   unfolding field endOf
   field-over h = rw (drop-of-length-le file h)
+
+-- the next line end from a place on, by the run of bytes that end no line
+pub line-end : (file : List ℕ) (from : ℕ) → ((i : ℕ) → getD file i 0 < 256)
+    → LineEnd file from (from + length (run (λ b. ltb (classOf b) 3) (drop from file)))
+line-end file from bytes = record {
+  further = omega arith;
+  ends = λ h. not-false _ (sym (below-terminate (getD file (from + size) 0) (bytes (from + size))) ∙ run-fails below file size from refl h);
+  closes = sym (run-keeps below file (λ m. endOf (length file) m (field (drop m file))) over size from refl);
+}
+  where
+    below : ℕ → Bool
+    below b = ltb (classOf b) 3
+
+    size : ℕ
+    size = length (run below (drop from file))
+
+    over : (m : ℕ) → m < length file → below (getD file m 0) ≡ true
+        → endOf (length file) m (field (drop m file)) ≡ endOf (length file) (m + 1) (field (drop (m + 1) file))
+    over m h e =
+        let plain : isTerminate (getD file m 0) ≡ false = not-true (isTerminate (getD file m 0)) (sym (below-terminate (getD file m 0) (bytes m)) ∙ e) in
+        field-at (length file) file m h ∙ rw plain

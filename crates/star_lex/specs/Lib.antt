@@ -3,3 +3,4 @@ pub mod Split
 pub mod Plain
 pub mod WellFormed
 pub mod Found
+pub mod LineEnd

@@ -10,7 +10,7 @@ ghost use lib.ListN.{length, getD, drop, replicate};
 ghost use Rattle.star_rows.specs.Rows.{stored};
 ghost use mathlib.Core.Bool.{true, false, _&&_};
 ghost use lib.Dec.{eqb};
-ghost use Rattle.star_text.specs.Bytes.{isWhite};
+ghost use Rattle.star_text.specs.Bytes.{Classes, isWhite};
 ghost use Rattle.star_lex.specs.Tokens.{Placed, tokenRow, opening};
 ghost use Rattle.star_lex.specs.Split.{refused, accepted, quoted, field, fieldLexeme, quotedLexeme, wordFrom, split as Split·split, lexeme as Split·lexeme};
 ghost use Rattle.star_lex.specs.Found.{tokensIn, answerOf, tableOf, foundAt};
@@ -43,15 +43,16 @@ pub enum Found {
 }
 
 // The text field whose `;` stands at `at`.
-fn text_field(file: &[u8], at: usize) -> Found
+fn text_field(classes: &[u8; 256], file: &[u8], at: usize) -> Found
     requires { ⌜ at < length (now file) ⌝ }
+    requires { ⌜ Classes (now classes) ⌝ }
     ensures { λ r. ⌜ r ≡ foundAt at (fieldLexeme (field (drop (at + 1) (now (file .entry)))) (drop (at + 1) (now (file .entry)))) ⌝ }
 {
-    let end = scan::field_end(file, at + 1);
+    let end = scan::field_end(classes, file, at + 1);
     if end == file.len() {
         return Found::Fault(6);
     }
-    if scan::white_at(file, end + 2) {
+    if scan::white_at(classes, file, end + 2) {
         Found::Token {
             kind: 11,
             start: at + 1,
@@ -64,13 +65,14 @@ fn text_field(file: &[u8], at: usize) -> Found
 }
 
 // The quoted string whose quote stands at `at`, a token of this kind.
-fn quoted_string(file: &[u8], at: usize, kind: u32, quote: u8) -> Found
+fn quoted_string(classes: &[u8; 256], file: &[u8], at: usize, kind: u32, quote: u8) -> Found
     requires { ⌜ at < length (now file) ⌝ }
     requires { ⌜ length (opening kind) ≡ 1 ⌝ }
     requires { ⌜ isWhite quote ≡ false ⌝ }
+    requires { ⌜ Classes (now classes) ⌝ }
     ensures { λ r. ⌜ r ≡ foundAt at (quotedLexeme kind (quoted quote (drop (at + 1) (now (file .entry))))) ⌝ }
 {
-    let end = scan::quote_end(file, at + 1, quote);
+    let end = scan::quote_end(classes, file, at + 1, quote);
     if end == file.len() {
         Found::Fault(5)
     } else {
@@ -84,12 +86,13 @@ fn quoted_string(file: &[u8], at: usize, kind: u32, quote: u8) -> Found
 }
 
 // The word that begins at `at`.
-fn word_at(file: &[u8], at: usize) -> Found
+fn word_at(classes: &[u8; 256], file: &[u8], at: usize) -> Found
     requires { ⌜ at < length (now file) ⌝ }
     requires { ⌜ isWhite (getD (now file) at 0) ≡ false ⌝ }
+    requires { ⌜ Classes (now classes) ⌝ }
     ensures { λ r. ⌜ r ≡ foundAt at (wordFrom (getD (now (file .entry)) at 0) (drop (at + 1) (now (file .entry)))) ⌝ }
 {
-    let end = star_text::run_end(file, at + 1, BLANK);
+    let end = star_text::run_end(classes, file, at + 1, BLANK);
     match word::word_kind(&file[at..end]) {
         Word::Kind(kind) => Found::Token {
             kind,
@@ -109,32 +112,34 @@ fn opens_field(line: bool, b: u8) -> bool
 }
 
 // What stands at a place outside tokens; whether a line starts there.
-fn lexeme(file: &[u8], at: usize, line: bool) -> Found
+fn lexeme(classes: &[u8; 256], file: &[u8], at: usize, line: bool) -> Found
     requires { ⌜ at < length (now file) ⌝ }
+    requires { ⌜ Classes (now classes) ⌝ }
     ensures { λ r. ⌜ r ≡ foundAt at (Split·lexeme line (getD (now (file .entry)) at 0) (drop (at + 1) (now (file .entry)))) ⌝ }
 {
     let b = file[at];
-    if star_text::is_white(b) {
+    if star_text::is_white(classes, b) {
         return Found::Gap(at + 1);
     }
     if b == b'#' {
-        return Found::Gap(star_text::run_end(file, at + 1, TERMINATE));
+        return Found::Gap(star_text::run_end(classes, file, at + 1, TERMINATE));
     }
     if opens_field(line, b) {
-        return text_field(file, at);
+        return text_field(classes, file, at);
     }
     if b == b'\'' {
-        return quoted_string(file, at, 9, b);
+        return quoted_string(classes, file, at, 9, b);
     }
     if b == b'"' {
-        return quoted_string(file, at, 10, b);
+        return quoted_string(classes, file, at, 10, b);
     }
-    word_at(file, at)
+    word_at(classes, file, at)
 }
 
 // The tokens of a file: rows that fit are written, and all are counted.
-fn split(file: &[u8], table: &mut [u32]) -> Tokens
+fn split(classes: &[u8; 256], file: &[u8], table: &mut [u32]) -> Tokens
     requires { ⌜ length (now file) ≤ 1048576 ⌝ }
+    requires { ⌜ Classes (now classes) ⌝ }
     ensures { λ r. ⌜ r ≡ answerOf (Split·split 0 true 0 (now (file .entry))) ⌝ }
     ensures { λ _. ⌜ ((ps : List Placed) → Split·split 0 true 0 (now (file .entry)) ≡ accepted ps
         → now (table .exit) ≡ stored 3 tokenRow ps (now (table .entry))) ⌝ }
@@ -143,8 +148,8 @@ fn split(file: &[u8], table: &mut [u32]) -> Tokens
     let mut line = true;
     let mut count: usize = 0;
     while at < file.len() {
-        let found = lexeme(file, at, line);
-        line = star_text::is_terminate(file[at]);
+        let found = lexeme(classes, file, at, line);
+        line = star_text::is_terminate(classes, file[at]);
         match found {
             Found::Gap(next) => {
                 at = next;
@@ -196,11 +201,12 @@ pub fn read_tokens(file: &[u8], table: &mut [u32]) -> Tokens
     if LIMIT < file.len() {
         return refuse(table, 1, 0);
     }
-    let at = star_text::first_refused(file);
+    let classes = star_text::class_table();
+    let at = star_text::first_refused(&classes, file);
     if at < file.len() {
         return refuse(table, 2, at as u32);
     }
-    let found = split(file, table);
+    let found = split(&classes, file, table);
     if found.refusal != 0 {
         return refuse(table, found.refusal, found.place);
     }

@@ -1,9 +1,10 @@
 -- The bytes of a file: paper 01, "Bytes and tokens".
+use mathlib.Core.Path.{_≡_}
 use mathlib.Core.Bool.{Bool, true, cond, _&&_, _||_}
 use mathlib.Core.List.{List, [], _∷_}
-use Prim.Native.Nat.{ℕ}
+use Prim.Native.Nat.{ℕ, _<_}
 use lib.Dec.{eqb, leb}
-use lib.ListN.{length}
+use lib.ListN.{length, getD}
 
 -- blank: 9, 11, 32
 unfoldable pub isBlank : ℕ → Bool
@@ -28,6 +29,10 @@ isAllowed b = leb 9 b && leb b 13 || leb 32 b && leb b 126
 -- the class of a byte: 0 not allowed, 1 printable, 2 blank, 3 terminate
 unfoldable pub classOf : ℕ → ℕ
 classOf b = cond (isBlank b) 2 (cond (isTerminate b) 3 (cond (isPrintable b) 1 0))
+
+-- a table that has the class of each byte at its place
+abbrev pub Classes : List ℕ → Type 0
+Classes table = (b : ℕ) → b < 256 → getD table b 0 ≡ classOf b
 
 -- every byte passes a test
 unfoldable pub all : (ℕ → Bool) → List ℕ → Bool

@@ -1,9 +1,10 @@
 // The bytes of a STAR File: the class of a byte, and the first byte that is not allowed.
 ghost use mathlib.Core.Path.{_≡_};
-ghost use Prim.Native.Nat.{_+_};
+ghost use mathlib.Core.Bool.{true};
+ghost use Prim.Native.Nat.{ℕ, _+_, _≤_, _<_};
 ghost use lib.Dec.{ltb};
-ghost use lib.ListN.{length, drop};
-ghost use Rattle.star_text.specs.Bytes.{classOf, isAllowed, isTerminate, isWhite, firstRefused, run};
+ghost use lib.ListN.{length, getD, drop};
+ghost use Rattle.star_text.specs.Bytes.{Classes, classOf, isAllowed, isTerminate, isWhite, firstRefused, run};
 
 // The classes of bytes: not allowed, printable, blank, terminate.
 const REFUSED: u8 = 0;
@@ -272,41 +273,90 @@ const CLASSES: [u8; 256] = [
     0,
 ];
 
-// The class of a byte.
-pub fn class_of(b: u8) -> u8
+// The class of each byte, for those who lend it to the functions below: an index into the constant itself copies it.
+pub fn class_table() -> [u8; 256]
+    ensures { λ r. ⌜ Classes r ⌝ }
+{
+    CLASSES
+}
+
+// The class of a byte. This function and those below are called by proved layers only, which lend them the class table.
+pub fn class_of(classes: &[u8; 256], b: u8) -> u8
+    requires { ⌜ Classes (now classes) ⌝ }
     ensures { λ r. ⌜ r ≡ classOf b ⌝ }
 {
-    CLASSES[b as usize]
+    classes[b as usize]
 }
 
 // Whether a byte is allowed.
-pub fn is_allowed(b: u8) -> bool
+pub fn is_allowed(classes: &[u8; 256], b: u8) -> bool
+    requires { ⌜ Classes (now classes) ⌝ }
     ensures { λ r. ⌜ r ≡ isAllowed b ⌝ }
 {
-    REFUSED < class_of(b)
+    REFUSED < class_of(classes, b)
 }
 
 // Whether a byte is white space.
-pub fn is_white(b: u8) -> bool
+pub fn is_white(classes: &[u8; 256], b: u8) -> bool
+    requires { ⌜ Classes (now classes) ⌝ }
     ensures { λ r. ⌜ r ≡ isWhite b ⌝ }
 {
-    BLANK <= class_of(b)
+    BLANK <= class_of(classes, b)
 }
 
 // Whether a byte ends a line.
-pub fn is_terminate(b: u8) -> bool
+pub fn is_terminate(classes: &[u8; 256], b: u8) -> bool
+    requires { ⌜ Classes (now classes) ⌝ }
     ensures { λ r. ⌜ r ≡ isTerminate b ⌝ }
 {
-    TERMINATE <= class_of(b)
+    TERMINATE <= class_of(classes, b)
+}
+
+// Answers true only where the four bytes from a place on are allowed.
+fn four_allowed(classes: &[u8; 256], file: &[u8], at: usize) -> bool
+    requires { ⌜ Classes (now classes) ⌝ }
+    requires { ⌜ at + 3 < length (now file) ⌝ }
+    ensures { λ r. ⌜ (r ≡ true → (k : ℕ) → k < 4 → isAllowed (getD (now (file .entry)) (at + k) 0) ≡ true) ⌝ }
+{
+    if !is_allowed(classes, file[at]) {
+        return false;
+    }
+    if !is_allowed(classes, file[at + 1]) {
+        return false;
+    }
+    if !is_allowed(classes, file[at + 2]) {
+        return false;
+    }
+    if !is_allowed(classes, file[at + 3]) {
+        return false;
+    }
+    true
+}
+
+// A place from which on as many bytes are allowed as are left of those that are allowed from the start: four are passed at a time.
+fn skip_allowed(classes: &[u8; 256], file: &[u8]) -> usize
+    requires { ⌜ Classes (now classes) ⌝ }
+    ensures { λ r. ⌜ r ≤ length (now (file .entry)) ⌝ }
+    ensures { λ r. ⌜ r + length (run isAllowed (drop r (now (file .entry)))) ≡ length (run isAllowed (now (file .entry))) ⌝ }
+{
+    let mut at = 0;
+    while file.len() - at > 3 {
+        if !four_allowed(classes, file, at) {
+            return at;
+        }
+        at += 4;
+    }
+    at
 }
 
 // The place of the first byte that is not allowed, or the file's length where there is none.
-pub fn first_refused(file: &[u8]) -> usize
+pub fn first_refused(classes: &[u8; 256], file: &[u8]) -> usize
+    requires { ⌜ Classes (now classes) ⌝ }
     ensures { λ r. ⌜ r ≡ firstRefused (now (file .entry)) ⌝ }
 {
-    let mut at = 0;
+    let mut at = skip_allowed(classes, file);
     while at < file.len() {
-        if !is_allowed(file[at]) {
+        if !is_allowed(classes, file[at]) {
             return at;
         }
         at += 1;
@@ -314,13 +364,54 @@ pub fn first_refused(file: &[u8]) -> usize
     at
 }
 
-// The end of the run of bytes from `from` on whose class is below `class`.
-pub fn run_end(file: &[u8], from: usize, class: u8) -> usize
-    ensures { λ r. ⌜ r ≡ from + length (run (λ b. ltb (classOf b) class) (drop from (now (file .entry)))) ⌝ }
+// Answers true only where the classes of the four bytes from a place on are below `class`.
+fn four_below(classes: &[u8; 256], file: &[u8], at: usize, class: u8) -> bool
+    requires { ⌜ Classes (now classes) ⌝ }
+    requires { ⌜ at + 3 < length (now file) ⌝ }
+    ensures { λ r. ⌜ (r ≡ true → (k : ℕ) → k < 4 → ltb (classOf (getD (now (file .entry)) (at + k) 0)) class ≡ true) ⌝ }
+{
+    if class <= class_of(classes, file[at]) {
+        return false;
+    }
+    if class <= class_of(classes, file[at + 1]) {
+        return false;
+    }
+    if class <= class_of(classes, file[at + 2]) {
+        return false;
+    }
+    if class <= class_of(classes, file[at + 3]) {
+        return false;
+    }
+    true
+}
+
+// A place of the run from `from` on of bytes whose class is below `class`, which ends where the run from there ends: four are passed at a time.
+fn skip_below(classes: &[u8; 256], file: &[u8], from: usize, class: u8) -> usize
+    requires { ⌜ Classes (now classes) ⌝ }
+    ensures { λ r. ⌜ r + length (run (λ b. ltb (classOf b) class) (drop r (now (file .entry))))
+        ≡ from + length (run (λ b. ltb (classOf b) class) (drop from (now (file .entry)))) ⌝ }
 {
     let mut at = from;
     while at < file.len() {
-        if class_of(file[at]) < class {
+        if file.len() - at < 4 {
+            return at;
+        }
+        if !four_below(classes, file, at, class) {
+            return at;
+        }
+        at += 4;
+    }
+    at
+}
+
+// The end of the run of bytes from `from` on whose class is below `class`.
+pub fn run_end(classes: &[u8; 256], file: &[u8], from: usize, class: u8) -> usize
+    requires { ⌜ Classes (now classes) ⌝ }
+    ensures { λ r. ⌜ r ≡ from + length (run (λ b. ltb (classOf b) class) (drop from (now (file .entry)))) ⌝ }
+{
+    let mut at = skip_below(classes, file, from, class);
+    while at < file.len() {
+        if class_of(classes, file[at]) < class {
             at += 1;
         } else {
             return at;

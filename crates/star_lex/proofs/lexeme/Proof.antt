@@ -21,8 +21,8 @@ shared-slice-read-b c = search needs
 is-white-requires : tie.Need-is-white-requires
 is-white-requires c κs = search needs
 
-add-t8 : tie.Need-add-t8
-add-t8 c = search needs
+add-t9 : tie.Need-add-t9
+add-t9 c = search needs
 
 returns : tie.Need-returns
 unfolding lexeme foundAt
@@ -53,7 +53,7 @@ returns-3 c = rw ((sym (c .before .before .before .before .before .is-white .ens
 
 quoted-string-requires : tie.Need-quoted-string-requires
 unfolding opening
-quoted-string-requires c κs = (c .before .before .before .before .before .before .before .before .pre, (refl, (sym (c .before .before .before .before .before .is-white .ensures) ∙ c .before .before .before .before .if1 .left)))
+quoted-string-requires c κs = (c .before .before .before .before .before .before .before .before .pre .0, (refl, (sym (c .before .before .before .before .before .is-white .ensures) ∙ c .before .before .before .before .if1 .left, c .before .before .before .before .before .before .before .before .pre .1)))
 
 returns-4 : tie.Need-returns-4
 unfolding lexeme foundAt
@@ -63,7 +63,7 @@ returns-4 c =
 
 quoted-string-requires-2 : tie.Need-quoted-string-requires-2
 unfolding opening
-quoted-string-requires-2 c κs = (c .before .before .before .before .before .before .before .before .before .pre, (refl, (sym (c .before .before .before .before .before .before .is-white .ensures) ∙ c .before .before .before .before .before .if1 .left)))
+quoted-string-requires-2 c κs = (c .before .before .before .before .before .before .before .before .before .pre .0, (refl, (sym (c .before .before .before .before .before .before .is-white .ensures) ∙ c .before .before .before .before .before .if1 .left, c .before .before .before .before .before .before .before .before .before .pre .1)))
 
 returns-5 : tie.Need-returns-5
 unfolding lexeme foundAt
@@ -72,7 +72,7 @@ returns-5 c =
     (c .quoted-string2 .ensures ∙ ap (λ n. foundAt (c .before .before .before .before .before .before .before .before .before .before .args .at) (quotedLexeme 10 (quoted n (drop ((c .before .before .before .before .before .before .before .before .before .before .args .at) + 1) (c .before .before .before .before .before .before .before .before .before .before .args .file .now))))) (c .before .if5 .taken))
 
 word-at-requires : tie.Need-word-at-requires
-word-at-requires c κs = (c .before .before .before .before .before .before .before .before .before .pre, (sym (c .before .before .before .before .before .before .is-white .ensures) ∙ c .before .before .before .before .before .if1 .left))
+word-at-requires c κs = (c .before .before .before .before .before .before .before .before .before .pre .0, (sym (c .before .before .before .before .before .before .is-white .ensures) ∙ c .before .before .before .before .before .if1 .left, c .before .before .before .before .before .before .before .before .before .pre .1))
 
 returns-6 : tie.Need-returns-6
 unfolding lexeme foundAt
@@ -84,7 +84,7 @@ lexeme-spec =
     (tie.spec
     shared-slice-read-b
     is-white-requires
-    add-t8
+    add-t9
     returns
     add-run-end
     run-end-requires

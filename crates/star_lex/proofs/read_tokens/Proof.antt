@@ -26,6 +26,9 @@ returns c =
     let t = tokens-too-long (c .before .before .before .before .before .before .before .args .file .now) (length (c .before .before .before .before .before .before .before .args .table .now)) (c .before .before .before .before .if1 .taken) in
     (c .before .before .refuse .ensures .0 ∙ sym (ap answerOf t), c .before .before .refuse .ensures .1 ∙ sym (ap (λ s. tableOf s (length (c .before .before .before .before .before .before .before .args .table .now))) t))
 
+class-table-requires : tie.Need-class-table-requires
+class-table-requires c κs = search needs
+
 first-refused-requires : tie.Need-first-refused-requires
 first-refused-requires c κs = search needs
 
@@ -41,9 +44,9 @@ same-length-2 c = search needs
 returns-2 : tie.Need-returns-2
 unfolding tableOf fitting
 returns-2 c =
-    let t = tokens-refused-byte (c .before .before .before .before .before .before .before .before .before .args .file .now) (length (c .before .before .before .before .before .before .before .before .before .args .table .now)) (c .before .before .before .before .before .before .if1 .left) (rw (c .before .before .before .before .before .first-refused .ensures) at (c .before .before .before .before .if2 .taken)) in (
+    let t = tokens-refused-byte (c .before .before .before .before .before .before .before .before .before .before .before .args .file .now) (length (c .before .before .before .before .before .before .before .before .before .before .before .args .table .now)) (c .before .before .before .before .before .before .before .before .if1 .left) (rw (c .before .before .before .before .before .first-refused .ensures) at (c .before .before .before .before .if2 .taken)) in (
       c .before .before .refuse2 .ensures .0 ∙ ap (λ n. answerOf (refused 2 n)) (c .before .before .before .before .before .first-refused .ensures) ∙ sym (ap answerOf t),
-      c .before .before .refuse2 .ensures .1 ∙ sym (ap (λ s. tableOf s (length (c .before .before .before .before .before .before .before .before .before .args .table .now))) t),
+      c .before .before .refuse2 .ensures .1 ∙ sym (ap (λ s. tableOf s (length (c .before .before .before .before .before .before .before .before .before .before .before .args .table .now))) t),
     )
 
 split-requires : tie.Need-split-requires
@@ -58,9 +61,9 @@ same-length-3 c = search needs
 returns-3 : tie.Need-returns-3
 unfolding tableOf fitting
 returns-3 c =
-    let t = tokens-split (c .before .before .before .before .before .before .before .before .before .before .before .before .before .before .before .args .file .now) (length (c .before .before .before .before .before .before .before .before .before .before .before .before .before .before .before .args .table .now)) (c .before .before .before .before .before .before .before .before .before .before .before .before .if1 .left) (rw (c .before .before .before .before .before .before .before .before .before .before .before .first-refused .ensures) at (c .before .before .before .before .before .before .before .before .before .before .if2 .left)) ∙ ap (fitting (length (c .before .before .before .before .before .before .before .before .before .before .before .before .before .before .before .args .table .now))) (answer-refused _ (c .before .before .before .before .before .before .before .before .split .result) (c .before .before .before .before .before .before .before .before .split .ensures .0) (c .before .before .before .before .if3 .taken)) in (
+    let t = tokens-split (c .before .before .before .before .before .before .before .before .before .before .before .before .before .before .before .before .before .before .args .file .now) (length (c .before .before .before .before .before .before .before .before .before .before .before .before .before .before .before .before .before .before .args .table .now)) (c .before .before .before .before .before .before .before .before .before .before .before .before .before .before .before .if1 .left) (rw (c .before .before .before .before .before .before .before .before .before .before .before .before .first-refused .ensures) at (c .before .before .before .before .before .before .before .before .before .before .before .if2 .left)) ∙ ap (fitting (length (c .before .before .before .before .before .before .before .before .before .before .before .before .before .before .before .before .before .before .args .table .now))) (answer-refused _ (c .before .before .before .before .before .before .before .before .split .result) (c .before .before .before .before .before .before .before .before .split .ensures .0) (c .before .before .before .before .if3 .taken)) in (
       c .before .before .refuse3 .ensures .0 ∙ sym (ap answerOf t),
-      c .before .before .refuse3 .ensures .1 ∙ ap (λ n. replicate n 0) (c .before .before .before .before .before .before .before .before .split .kept .1 .0) ∙ sym (ap (λ s. tableOf s (length (c .before .before .before .before .before .before .before .before .before .before .before .before .before .before .before .args .table .now))) t),
+      c .before .before .refuse3 .ensures .1 ∙ ap (λ n. replicate n 0) (c .before .before .before .before .before .before .before .before .split .kept .1 .1 .0) ∙ sym (ap (λ s. tableOf s (length (c .before .before .before .before .before .before .before .before .before .before .before .before .before .before .before .before .before .before .args .table .now))) t),
     )
 
 cast-count : tie.Need-cast-count
@@ -75,11 +78,11 @@ same-length-4 c = search needs
 returns-4 : tie.Need-returns-4
 unfolding tableOf fitting
 returns-4 c =
-    let (ps, q, r) = answer-accepted (c .before .before .before .before .before .before .before .before .before .before .before .before .before .before .before .before .before .args .file .now) (c .before .before .before .before .before .before .before .before .before .before .split .result) (c .before .before .before .before .before .before .before .before .before .before .split .ensures .0) (c .before .before .before .before .before .before .if3 .left) in
-    let k : length (c .before .before .before .before .before .before .before .before .before .before .split .last .1 .0) ≡ (length (c .before .before .before .before .before .before .before .before .before .before .before .before .before .before .before .before .before .args .table .now)) = c .before .before .before .before .before .before .before .before .before .before .split .kept .1 .0 in
-    let t = tokens-split (c .before .before .before .before .before .before .before .before .before .before .before .before .before .before .before .before .before .args .file .now) (length (c .before .before .before .before .before .before .before .before .before .before .before .before .before .before .before .before .before .args .table .now)) (c .before .before .before .before .before .before .before .before .before .before .before .before .before .before .if1 .left) (rw (c .before .before .before .before .before .before .before .before .before .before .before .before .before .first-refused .ensures) at (c .before .before .before .before .before .before .before .before .before .before .before .before .if2 .left)) ∙ ap (fitting (length (c .before .before .before .before .before .before .before .before .before .before .before .before .before .before .before .before .before .args .table .now))) q ∙ fitting-full (length (c .before .before .before .before .before .before .before .before .before .before .before .before .before .before .before .before .before .args .table .now)) ps (omega (arith, c .before .before .before .before .if4 .taken)) in (
+    let (ps, q, r) = answer-accepted (c .before .before .before .before .before .before .before .before .before .before .before .before .before .before .before .before .before .before .before .before .args .file .now) (c .before .before .before .before .before .before .before .before .before .before .split .result) (c .before .before .before .before .before .before .before .before .before .before .split .ensures .0) (c .before .before .before .before .before .before .if3 .left) in
+    let k : length (c .before .before .before .before .before .before .before .before .before .before .split .last .1 .1 .0) ≡ (length (c .before .before .before .before .before .before .before .before .before .before .before .before .before .before .before .before .before .before .before .before .args .table .now)) = c .before .before .before .before .before .before .before .before .before .before .split .kept .1 .1 .0 in
+    let t = tokens-split (c .before .before .before .before .before .before .before .before .before .before .before .before .before .before .before .before .before .before .before .before .args .file .now) (length (c .before .before .before .before .before .before .before .before .before .before .before .before .before .before .before .before .before .before .before .before .args .table .now)) (c .before .before .before .before .before .before .before .before .before .before .before .before .before .before .before .before .before .if1 .left) (rw (c .before .before .before .before .before .before .before .before .before .before .before .before .before .before .first-refused .ensures) at (c .before .before .before .before .before .before .before .before .before .before .before .before .before .if2 .left)) ∙ ap (fitting (length (c .before .before .before .before .before .before .before .before .before .before .before .before .before .before .before .before .before .before .before .before .args .table .now))) q ∙ fitting-full (length (c .before .before .before .before .before .before .before .before .before .before .before .before .before .before .before .before .before .before .before .before .args .table .now)) ps (omega (arith, c .before .before .before .before .if4 .taken)) in (
       c .before .before .refuse4 .ensures .0 ∙ sym (ap answerOf t),
-      c .before .before .refuse4 .ensures .1 ∙ ap (λ n. replicate n 0) k ∙ sym (ap (λ s. tableOf s (length (c .before .before .before .before .before .before .before .before .before .before .before .before .before .before .before .before .before .args .table .now))) t),
+      c .before .before .refuse4 .ensures .1 ∙ ap (λ n. replicate n 0) k ∙ sym (ap (λ s. tableOf s (length (c .before .before .before .before .before .before .before .before .before .before .before .before .before .before .before .before .before .before .before .before .args .table .now))) t),
     )
 
 mul-clear-from : tie.Need-mul-clear-from
@@ -94,15 +97,15 @@ same-length-5 c = search needs
 returns-5 : tie.Need-returns-5
 unfolding tableOf fitting
 returns-5 c =
-    let (ps, q, r) = answer-accepted (c .before .before .before .before .before .before .before .before .before .before .before .before .before .before .before .before .before .args .file .now) (c .before .before .before .before .before .before .before .before .before .before .split .result) (c .before .before .before .before .before .before .before .before .before .before .split .ensures .0) (c .before .before .before .before .before .before .if3 .left) in
-    let k : length (c .before .before .before .before .before .before .before .before .before .before .split .last .1 .0) ≡ (length (c .before .before .before .before .before .before .before .before .before .before .before .before .before .before .before .before .before .args .table .now)) = c .before .before .before .before .before .before .before .before .before .before .split .kept .1 .0 in
-    let t = tokens-split (c .before .before .before .before .before .before .before .before .before .before .before .before .before .before .before .before .before .args .file .now) (length (c .before .before .before .before .before .before .before .before .before .before .before .before .before .before .before .before .before .args .table .now)) (c .before .before .before .before .before .before .before .before .before .before .before .before .before .before .if1 .left) (rw (c .before .before .before .before .before .before .before .before .before .before .before .before .before .first-refused .ensures) at (c .before .before .before .before .before .before .before .before .before .before .before .before .if2 .left)) ∙ ap (fitting (length (c .before .before .before .before .before .before .before .before .before .before .before .before .before .before .before .before .before .args .table .now))) q ∙ fitting-room (length (c .before .before .before .before .before .before .before .before .before .before .before .before .before .before .before .before .before .args .table .now)) ps (omega (arith, c .before .before .before .before .if4 .left)) in (
+    let (ps, q, r) = answer-accepted (c .before .before .before .before .before .before .before .before .before .before .before .before .before .before .before .before .before .before .before .before .args .file .now) (c .before .before .before .before .before .before .before .before .before .before .split .result) (c .before .before .before .before .before .before .before .before .before .before .split .ensures .0) (c .before .before .before .before .before .before .if3 .left) in
+    let k : length (c .before .before .before .before .before .before .before .before .before .before .split .last .1 .1 .0) ≡ (length (c .before .before .before .before .before .before .before .before .before .before .before .before .before .before .before .before .before .before .before .before .args .table .now)) = c .before .before .before .before .before .before .before .before .before .before .split .kept .1 .1 .0 in
+    let t = tokens-split (c .before .before .before .before .before .before .before .before .before .before .before .before .before .before .before .before .before .before .before .before .args .file .now) (length (c .before .before .before .before .before .before .before .before .before .before .before .before .before .before .before .before .before .before .before .before .args .table .now)) (c .before .before .before .before .before .before .before .before .before .before .before .before .before .before .before .before .before .if1 .left) (rw (c .before .before .before .before .before .before .before .before .before .before .before .before .before .before .first-refused .ensures) at (c .before .before .before .before .before .before .before .before .before .before .before .before .before .if2 .left)) ∙ ap (fitting (length (c .before .before .before .before .before .before .before .before .before .before .before .before .before .before .before .before .before .before .before .before .args .table .now))) q ∙ fitting-room (length (c .before .before .before .before .before .before .before .before .before .before .before .before .before .before .before .before .before .before .before .before .args .table .now)) ps (omega (arith, c .before .before .before .before .if4 .left)) in (
       c .before .before .before .before .before .before .before .before .before .before .split .ensures .0 ∙ ap answerOf q ∙ sym (ap answerOf t),
       c .before .before .clear-from .ensures
-          ∙ ap (λ n. clearedFrom (n * 3) (c .before .before .before .before .before .before .before .before .before .before .split .last .1 .0)) r
+          ∙ ap (λ n. clearedFrom (n * 3) (c .before .before .before .before .before .before .before .before .before .before .split .last .1 .1 .0)) r
           ∙ ap (clearedFrom (length ps * 3)) (c .before .before .before .before .before .before .before .before .before .before .split .ensures .1 ps q)
-          ∙ stored-holding 3 tokenRow row-wide (omega arith) ps (c .before .before .before .before .before .before .before .before .before .before .before .before .before .before .before .before .before .args .table .now) (omega (arith, c .before .before .before .before .if4 .left))
-          ∙ sym (ap (λ s. tableOf s (length (c .before .before .before .before .before .before .before .before .before .before .before .before .before .before .before .before .before .args .table .now))) t),
+          ∙ stored-holding 3 tokenRow row-wide (omega arith) ps (c .before .before .before .before .before .before .before .before .before .before .before .before .before .before .before .before .before .before .before .before .args .table .now) (omega (arith, c .before .before .before .before .if4 .left))
+          ∙ sym (ap (λ s. tableOf s (length (c .before .before .before .before .before .before .before .before .before .before .before .before .before .before .before .before .before .before .before .before .args .table .now))) t),
     )
 
 pub read-tokens-spec : {M : Type 1} → statement M
@@ -112,6 +115,7 @@ read-tokens-spec =
     refuse-requires
     same-length
     returns
+    class-table-requires
     first-refused-requires
     cast-refuse
     refuse-requires-2

@@ -15,16 +15,16 @@ use Rattle.star_lex.proofs.split.Statement.{statement}
 use Rattle.star_lex.proofs.split.Tie as tie
 
 abbrev Inv-loop : tie.InvT-loop
-Inv-loop file table₀ at₀ line₀ count₀ table at line count = Progress file table₀ table at count line
+Inv-loop classes file table₀ at₀ line₀ count₀ table at line count = Progress file table₀ table at count line
 
 abbrev μ-loop : tie.MeasureT-loop
-μ-loop file table₀ at₀ line₀ count₀ table at line count = length file - at
+μ-loop classes file table₀ at₀ line₀ count₀ table at line count = length file - at
 
 loop-holds : tie.Need-loop-holds Inv-loop μ-loop
 loop-holds c = progress-start (c .before .before .args .file .now) (c .before .before .args .table .now)
 
 lexeme-requires : tie.Need-lexeme-requires Inv-loop μ-loop
-lexeme-requires c κs = omega arith
+lexeme-requires c κs = (omega arith, c .before .before .before .before .pre .1)
 
 shared-slice-read-is-terminate : tie.Need-shared-slice-read-is-terminate Inv-loop μ-loop
 shared-slice-read-is-terminate c = omega arith
@@ -51,12 +51,12 @@ enum-known-found-2 c = search needs
 cast-put3 : tie.Need-cast-put3 Inv-loop μ-loop
 cast-put3 c =
     let t = turn-token (c .before .before .before .before .before .before .before .before .before .before .before .args .file .now) (c .before .before .before .before .before .before .before .before .before .before .before .args .table .now) (c .before .before .before .before .before .before .before .before .loop .table) (c .before .before .before .before .before .before .before .before .loop .at) (c .before .before .before .before .before .before .before .before .loop .count) (c .before .before .before .before .before .before .before .before .loop .line) (c .before .before .before .before .before .before .before .before .loop .inv) (omega arith) (c .before .before .found2 .given .0 .0) (c .before .before .found2 .given .0 .1 .0) (c .before .before .found2 .given .0 .1 .1 .0) (c .before .before .found2 .given .0 .1 .1 .1 .0) (sym (c .before .before .before .before .before .before .lexeme .ensures) ∙ c .before .before .found2 .given .1) in
-    omega (arith, t .2, c .before .before .before .before .before .before .before .before .before .before .before .pre)
+    omega (arith, t .2, c .before .before .before .before .before .before .before .before .before .before .before .pre .0)
 
 cast-put3-2 : tie.Need-cast-put3-2 Inv-loop μ-loop
 cast-put3-2 c =
     let t = turn-token (c .before .before .before .before .before .before .before .before .before .before .before .args .file .now) (c .before .before .before .before .before .before .before .before .before .before .before .args .table .now) (c .before .before .before .before .before .before .before .before .loop .table) (c .before .before .before .before .before .before .before .before .loop .at) (c .before .before .before .before .before .before .before .before .loop .count) (c .before .before .before .before .before .before .before .before .loop .line) (c .before .before .before .before .before .before .before .before .loop .inv) (omega arith) (c .before .before .found2 .given .0 .0) (c .before .before .found2 .given .0 .1 .0) (c .before .before .found2 .given .0 .1 .1 .0) (c .before .before .found2 .given .0 .1 .1 .1 .0) (sym (c .before .before .before .before .before .before .lexeme .ensures) ∙ c .before .before .found2 .given .1) in
-    omega (arith, t .3, c .before .before .before .before .before .before .before .before .before .before .before .pre)
+    omega (arith, t .3, c .before .before .before .before .before .before .before .before .before .before .before .pre .0)
 
 put3-requires : tie.Need-put3-requires Inv-loop μ-loop
 put3-requires c κs = search needs
@@ -78,8 +78,8 @@ loop-again-2 c =
 enum-known-found-3 : tie.Need-enum-known-found-3 Inv-loop μ-loop
 enum-known-found-3 c = search needs
 
-cast-t22 : tie.Need-cast-t22 Inv-loop μ-loop
-cast-t22 c = omega (arith, c .before .before .before .before .before .before .before .before .before .before .pre)
+cast-t23 : tie.Need-cast-t23 Inv-loop μ-loop
+cast-t23 c = omega (arith, c .before .before .before .before .before .before .before .before .before .before .pre .0)
 
 same-length : tie.Need-same-length Inv-loop μ-loop
 same-length c = ap length (c .before .before .before .before .before .before .before .loop .inv .rows) ∙ length-stored 3 tokenRow row-wide (omega arith) (c .before .before .before .before .before .before .before .loop .inv .done) (c .before .before .before .before .before .before .before .before .before .before .args .table .now)
@@ -94,8 +94,8 @@ returns c =
     let f = turn-fault (c .before .before .before .before .before .before .before .before .before .before .args .file .now) (c .before .before .before .before .before .before .before .before .before .before .args .table .now) (c .before .before .before .before .before .before .before .loop .table) (c .before .before .before .before .before .before .before .loop .at) (c .before .before .before .before .before .before .before .loop .count) (c .before .before .before .before .before .before .before .loop .line) (c .before .before .before .before .before .before .before .loop .inv) (omega arith) (c .before .found3 .given .0 .0) (sym (c .before .before .before .before .before .lexeme .ensures) ∙ c .before .found3 .given .1) in
     (sym (ap answerOf f), λ ps e. impossible cc)
 
-cast-t23 : tie.Need-cast-t23 Inv-loop μ-loop
-cast-t23 c = omega (arith, c .before .loop .inv .few, c .before .loop .inv .inside, c .before .before .before .before .pre)
+cast-t24 : tie.Need-cast-t24 Inv-loop μ-loop
+cast-t24 c = omega (arith, c .before .loop .inv .few, c .before .loop .inv .inside, c .before .before .before .before .pre .0)
 
 same-length-2 : tie.Need-same-length-2 Inv-loop μ-loop
 same-length-2 c = ap length (c .before .loop .inv .rows) ∙ length-stored 3 tokenRow row-wide (omega arith) (c .before .loop .inv .done) (c .before .before .before .before .args .table .now)
@@ -130,9 +130,9 @@ split-spec =
     loop-less-2
     loop-again-2
     enum-known-found-3
-    cast-t22
+    cast-t23
     same-length
     returns
-    cast-t23
+    cast-t24
     same-length-2
     returns-2)

@@ -18,34 +18,34 @@ field-end-requires : tie.Need-field-end-requires
 field-end-requires c κs = search needs
 
 returns : tie.Need-returns
-returns c = sym (field-open (c .before .before .before .args .file .now) (c .before .before .before .args .at) (c .before .before .before .pre) (sym (c .before .field-end .ensures) ∙ c .if1 .taken))
+returns c = sym (field-open (c .before .before .before .args .file .now) (c .before .before .before .args .at) (c .before .before .before .pre .0) (sym (c .before .field-end .ensures) ∙ c .if1 .taken))
 
 add-white-at : tie.Need-add-white-at
 add-white-at c =
     let w : c .before .field-end .result + 2 ≤ length (c .before .before .before .args .file .now) = rw (c .before .field-end .ensures)
-    (field-within (c .before .before .before .args .file .now) (c .before .before .before .args .at) (c .before .before .before .pre) (λ e. c .if1 .left (c .before .field-end .ensures ∙ e))) in
+    (field-within (c .before .before .before .args .file .now) (c .before .before .before .args .at) (c .before .before .before .pre .0) (λ e. c .if1 .left (c .before .field-end .ensures ∙ e))) in
     omega arith
 
 white-at-requires : tie.Need-white-at-requires
 white-at-requires c κs = search needs
 
-add-t8 : tie.Need-add-t8
-add-t8 c = search needs
-
 add-t9 : tie.Need-add-t9
-add-t9 c =
+add-t9 c = search needs
+
+add-t10 : tie.Need-add-t10
+add-t10 c =
     let w : c .before .before .before .field-end .result + 2 ≤ length (c .before .before .before .before .before .args .file .now) = rw (c .before .before .before .field-end .ensures)
-    (field-within (c .before .before .before .before .before .args .file .now) (c .before .before .before .before .before .args .at) (c .before .before .before .before .before .pre) (λ e. c .before .before .if1 .left (c .before .before .before .field-end .ensures ∙ e))) in
+    (field-within (c .before .before .before .before .before .args .file .now) (c .before .before .before .before .before .args .at) (c .before .before .before .before .before .pre .0) (λ e. c .before .before .if1 .left (c .before .before .before .field-end .ensures ∙ e))) in
     omega arith
 
 returns-2 : tie.Need-returns-2
 returns-2 c =
-    rw (c .before .before .before .field-end .ensures) (sym (field-found (c .before .before .before .before .before .args .file .now) (c .before .before .before .before .before .args .at) (c .before .before .before .before .before .pre) true (λ e. c .before .before .if1 .left (c .before .before .before .field-end .ensures ∙ e))
+    rw (c .before .before .before .field-end .ensures) (sym (field-found (c .before .before .before .before .before .args .file .now) (c .before .before .before .before .before .args .at) (c .before .before .before .before .before .pre .0) true (λ e. c .before .before .if1 .left (c .before .before .before .field-end .ensures ∙ e))
     (ap (λ n. whiteNext (drop (n + 2) (c .before .before .before .before .before .args .file .now))) (sym (c .before .before .before .field-end .ensures)) ∙ sym (c .before .white-at .ensures) ∙ c .if2 .taken)))
 
 returns-3 : tie.Need-returns-3
 returns-3 c =
-    sym (field-found (c .before .before .before .before .before .args .file .now) (c .before .before .before .before .before .args .at) (c .before .before .before .before .before .pre) false (λ e. c .before .before .if1 .left (c .before .before .before .field-end .ensures ∙ e))
+    sym (field-found (c .before .before .before .before .before .args .file .now) (c .before .before .before .before .before .args .at) (c .before .before .before .before .before .pre .0) false (λ e. c .before .before .if1 .left (c .before .before .before .field-end .ensures ∙ e))
     (ap (λ n. whiteNext (drop (n + 2) (c .before .before .before .before .before .args .file .now))) (sym (c .before .before .before .field-end .ensures)) ∙ sym (c .before .white-at .ensures) ∙ c .if2 .left))
 
 pub text-field-spec : {M : Type 1} → statement M
@@ -57,7 +57,7 @@ text-field-spec =
     returns
     add-white-at
     white-at-requires
-    add-t8
     add-t9
+    add-t10
     returns-2
     returns-3)

@@ -40,8 +40,8 @@ enum-known-kind c = search needs
 lead-requires : tie.Need-lead-requires
 lead-requires c κs = search needs
 
-add-t13 : tie.Need-add-t13
-add-t13 c =
+add-t14 : tie.Need-add-t14
+add-t14 c =
     let w : List ℕ = run (λ x. not (isWhite x)) (drop ((c .before .before .before .before .before .before .before .before .args .at) + 1) (c .before .before .before .before .before .before .before .before .args .file .now)) in
     let p = word-part (c .before .before .before .before .before .before .before .before .args .file .now) (c .before .before .before .before .before .before .before .before .args .at) (c .before .before .before .before .before .before .run-end .result) (c .before .before .before .before .before .before .before .before .pre .0) (λ i. omega (arith, c .before .before .before .before .before .before .before .shared-slice-known .given i)) (c .before .before .before .before .before .before .run-end .ensures) in
     let e : c .before .before .before .before .word-kind .result ≡ Kind (c .before .before .kind .given .0 .0) = c .before .before .kind .given .1 in
@@ -87,7 +87,7 @@ word-at-spec =
     word-kind-requires
     enum-known-kind
     lead-requires
-    add-t13
+    add-t14
     enum-known-number
     returns
     returns-2)

@@ -1,14 +1,13 @@
--- `class_of` meets its contract by the rule of the table.
+-- `class_of` meets its contract: the table that is lent has the class of each byte.
 use borrow.Author.Needs.{needs}
-use Rattle.star_text.proofs.Classes.{classes, class-is}
 use Rattle.star_text.proofs.class_of.Statement.{statement}
 use Rattle.star_text.proofs.class_of.Tie as tie
 
-array-read-result : tie.Need-array-read-result
-array-read-result c = search needs
+element-copy-out-result : tie.Need-element-copy-out-result
+element-copy-out-result c = search needs
 
 returns : tie.Need-returns
-returns c = class-is (c .args .b) (c .fits .b .fits)
+returns c = c .before .pre (c .before .args .b) (c .before .fits .b .fits)
 
 pub class-of-spec : {M : Type 1} → statement M
-class-of-spec = tie.close (tie.spec array-read-result returns)
+class-of-spec = tie.close (tie.spec element-copy-out-result returns)

@@ -14,13 +14,16 @@ use Rattle.star_text.proofs.first_refused.Statement.{statement}
 use Rattle.star_text.proofs.first_refused.Tie as tie
 
 abbrev Inv-loop : tie.InvT-loop
-Inv-loop file at₀ at = (at ≤ length file) × (at + length (run isAllowed (drop at file)) ≡ length (run isAllowed file))
+Inv-loop classes file at₀ at = (at ≤ length file) × (at + length (run isAllowed (drop at file)) ≡ length (run isAllowed file))
 
 abbrev μ-loop : tie.MeasureT-loop
-μ-loop file at₀ at = length file - at
+μ-loop classes file at₀ at = length file - at
 
 loop-holds : tie.Need-loop-holds Inv-loop μ-loop
-loop-holds c = omega arith
+loop-holds c = c .skip-allowed .ensures
+
+skip-allowed-requires : tie.Need-skip-allowed-requires Inv-loop μ-loop
+skip-allowed-requires c κs = search needs
 
 shared-slice-read-is-allowed : tie.Need-shared-slice-read-is-allowed Inv-loop μ-loop
 shared-slice-read-is-allowed c = omega arith
@@ -31,7 +34,7 @@ is-allowed-requires c κs = search needs
 returns : tie.Need-returns Inv-loop μ-loop
 unfolding firstRefused
 returns c =
-    sym (run-stops isAllowed (now (c .before .before .before .before .before .before .args .file)) (c .before .before .before .before .loop .at) (omega arith)
+    sym (run-stops isAllowed (now (c .before .before .before .before .before .before .before .args .file)) (c .before .before .before .before .loop .at) (omega arith)
     (sym (c .before .is-allowed .ensures) ∙ not-true _ (c .if1 .taken)))
     ∙ c .before .before .before .before .loop .inv .1
 
@@ -44,7 +47,7 @@ loop-less c = omega arith
 loop-again : tie.Need-loop-again Inv-loop μ-loop
 loop-again c = (
   omega arith,
-  sym (run-goes isAllowed (now (c .before .before .before .before .before .before .args .file)) (c .before .before .before .before .loop .at) (omega arith)
+  sym (run-goes isAllowed (now (c .before .before .before .before .before .before .before .args .file)) (c .before .before .before .before .loop .at) (omega arith)
       (sym (c .before .is-allowed .ensures) ∙ not-false _ (c .if1 .left)))
       ∙ c .before .before .before .before .loop .inv .1,
 )
@@ -52,7 +55,7 @@ loop-again c = (
 returns-2 : tie.Need-returns-2 Inv-loop μ-loop
 unfolding firstRefused
 returns-2 c =
-    sym (run-ends isAllowed (now (c .before .before .before .args .file)) (c .before .loop .at) (omega arith)) ∙ c .before .loop .inv .1
+    sym (run-ends isAllowed (now (c .before .before .before .before .args .file)) (c .before .loop .at) (omega arith)) ∙ c .before .loop .inv .1
 
 pub first-refused-spec : {M : Type 1} → statement M
 first-refused-spec =
@@ -60,6 +63,7 @@ first-refused-spec =
     (tie.spec
     Inv-loop
     μ-loop
+    skip-allowed-requires
     loop-holds
     shared-slice-read-is-allowed
     is-allowed-requires

@@ -12,13 +12,16 @@ use Rattle.star_text.proofs.run_end.Statement.{statement}
 use Rattle.star_text.proofs.run_end.Tie as tie
 
 abbrev Inv-loop : tie.InvT-loop
-Inv-loop file from class at₀ at = at + length (run (λ b. ltb (classOf b) class) (drop at file)) ≡ from + length (run (λ b. ltb (classOf b) class) (drop from file))
+Inv-loop classes file from class at₀ at = at + length (run (λ b. ltb (classOf b) class) (drop at file)) ≡ from + length (run (λ b. ltb (classOf b) class) (drop from file))
 
 abbrev μ-loop : tie.MeasureT-loop
-μ-loop file from class at₀ at = length file - at
+μ-loop classes file from class at₀ at = length file - at
 
 loop-holds : tie.Need-loop-holds Inv-loop μ-loop
-loop-holds c = refl
+loop-holds c = c .skip-below .ensures
+
+skip-below-requires : tie.Need-skip-below-requires Inv-loop μ-loop
+skip-below-requires c κs = search needs
 
 shared-slice-read-class-of : tie.Need-shared-slice-read-class-of Inv-loop μ-loop
 shared-slice-read-class-of c = omega arith
@@ -35,13 +38,13 @@ loop-less c = omega arith
 loop-again : tie.Need-loop-again Inv-loop μ-loop
 loop-again c =
     sym (run-goes _ _ (c .before .before .before .before .loop .at) (omega arith)
-    (ap (λ n. ltb n (c .before .before .before .before .before .before .args .class)) (sym (c .before .class-of .ensures)) ∙ lt-ltb _ _ (c .if1 .taken)))
+    (ap (λ n. ltb n (c .before .before .before .before .before .before .before .args .class)) (sym (c .before .class-of .ensures)) ∙ lt-ltb _ _ (c .if1 .taken)))
     ∙ c .before .before .before .before .loop .inv
 
 returns : tie.Need-returns Inv-loop μ-loop
 returns c =
     sym (run-stops _ _ (c .before .before .before .before .loop .at) (omega arith)
-    (ap (λ n. ltb n (c .before .before .before .before .before .before .args .class)) (sym (c .before .class-of .ensures)) ∙ le-ltb _ _ (c .if1 .left)))
+    (ap (λ n. ltb n (c .before .before .before .before .before .before .before .args .class)) (sym (c .before .class-of .ensures)) ∙ le-ltb _ _ (c .if1 .left)))
     ∙ c .before .before .before .before .loop .inv
 
 returns-2 : tie.Need-returns-2 Inv-loop μ-loop
@@ -53,6 +56,7 @@ run-end-spec =
     (tie.spec
     Inv-loop
     μ-loop
+    skip-below-requires
     loop-holds
     shared-slice-read-class-of
     class-of-requires

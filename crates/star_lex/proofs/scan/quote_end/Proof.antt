@@ -11,16 +11,16 @@ use Rattle.star_lex.proofs.scan.quote_end.Statement.{statement}
 use Rattle.star_lex.proofs.scan.quote_end.Tie as tie
 
 abbrev Inv-loop : tie.InvT-loop
-Inv-loop file from quote at₀ at = endOf (length file) at (quoted quote (drop at file)) ≡ endOf (length file) from (quoted quote (drop from file))
+Inv-loop classes file from quote at₀ at = endOf (length file) at (quoted quote (drop at file)) ≡ endOf (length file) from (quoted quote (drop from file))
 
 abbrev μ-loop : tie.MeasureT-loop
-μ-loop file from quote at₀ at = length file - at
+μ-loop classes file from quote at₀ at = length file - at
 
 loop-holds : tie.Need-loop-holds Inv-loop μ-loop
 loop-holds c = refl
 
 quote-closes-requires : tie.Need-quote-closes-requires Inv-loop μ-loop
-quote-closes-requires c κs = omega arith
+quote-closes-requires c κs = (omega arith, c .before .before .before .pre)
 
 returns : tie.Need-returns Inv-loop μ-loop
 returns c =
