@@ -80,7 +80,7 @@ fn room(rows: Parsed, sets: usize, names: usize, packets: usize, values: usize) 
 // What the grammar, names and codes, and the room of tables 2 to 5 decide.
 fn judge(
     file: &[u8],
-    tokens: &[u32],
+    tokens: &mut [u32],
     count: usize,
     rows: Parsed,
     sets: usize,
@@ -92,6 +92,7 @@ fn judge(
     requires { ⌜ Ran (run 8 start (fileTokens (now file)) noRows) count rows ⌝ }
     ensures { λ r. ⌜ r ≡ judgedOf (fitting (words (length (now (tokens .entry))) sets names packets values)
         (grammarOf (length (now (file .entry))) (placed (tokensOf (now (file .entry)))))) ⌝ }
+    ensures { λ _. ⌜ now (tokens .exit) ≡ now (tokens .entry) ⌝ }
 {
     let taken = star_unique::first_repeat(file, tokens, count);
     if taken < rows.tokens {

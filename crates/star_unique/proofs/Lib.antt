@@ -1,9 +1,13 @@
-pub mod After
+pub mod Chain
 pub mod Clean
 pub mod Distinct
 pub mod First
 pub mod Fresh
 pub mod Held
+pub mod Marking
+pub mod Marks
 pub mod Names
 pub mod Repeats
 pub mod SameFrom
+pub mod Scopes
+pub mod Unmarking

@@ -1,11 +1,10 @@
 -- Laws of `same`, seen from a place of both lists.
-use mathlib.Core.Path.{_≡_, refl}
+use mathlib.Core.Path.{_≡_, refl, sym, _∙_, ap}
 use mathlib.Core.Bool.{Bool, true, false}
-use mathlib.Core.List.{List}
-use Prim.Native.Nat.{ℕ, _+_, _≤_, _<_}
-use native.Mathlib.Numerals.{add-one}
-use borrow.Author.Tests.{eq-eqb, ne-eqb}
-use lib.ListN.{length, getD, drop, drop-of-length-le}
+use mathlib.Core.List.{List, _∷_}
+use Prim.Native.Nat.{ℕ, suc, _-_, _≤_, _<_}
+use native.Mathlib.Omega.{arith}
+use lib.ListN.{length, getD, drop}
 use lib.Seq.{drop-cons}
 use Rattle.star_unique.specs.Repeat.{same}
 use Rattle.star_unique.proofs.Distinct.{same-true}
@@ -17,18 +16,10 @@ same-unequal xs ys n = go (same xs ys) refl
     go true e = absurd (n (same-true xs ys e))
     go false e = refl
 
-module _ (xs ys : List ℕ) (at : ℕ) where
-  -- past bytes that are equal
-  pub same-goes : at < length xs → at < length ys → getD xs at 0 ≡ getD ys at 0 → same (drop at xs) (drop at ys) ≡ same (drop (at + 1) xs) (drop (at + 1) ys)
-  unfolding same
-  same-goes h k e = rw (drop-cons xs at 0 h, drop-cons ys at 0 k, eq-eqb (getD xs at 0) (getD ys at 0) e, add-one)
-
-  -- at bytes that are not
-  pub same-differs : at < length xs → at < length ys → (getD xs at 0 ≡ getD ys at 0 → ⊥) → same (drop at xs) (drop at ys) ≡ false
-  unfolding same
-  same-differs h k n = rw (drop-cons xs at 0 h, drop-cons ys at 0 k, ne-eqb (getD xs at 0) (getD ys at 0) n)
-
-  -- at the end
-  pub same-ends : length xs ≤ at → length ys ≤ at → same (drop at xs) (drop at ys) ≡ true
-  unfolding same
-  same-ends h k = rw (drop-of-length-le xs h, drop-of-length-le ys k)
+-- equal from the byte before, where that is equal too
+pub equal-before : (xs ys : List ℕ) (i : ℕ) → 0 < i → i ≤ length xs → i ≤ length ys → getD xs (i - 1) 0 ≡ getD ys (i - 1) 0
+    → drop i xs ≡ drop i ys → drop (i - 1) xs ≡ drop (i - 1) ys
+equal-before xs ys i some h k e d =
+    let back : suc (i - 1) ≡ i = omega arith in
+    drop-cons xs (i - 1) 0 (omega arith)
+    ∙ rw (back, e, d) (sym (drop-cons ys (i - 1) 0 (omega arith) ∙ rw back))

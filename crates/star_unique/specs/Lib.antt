@@ -1,3 +1,5 @@
 pub mod Repeat
 pub mod Holds
 pub mod Seen
+pub mod Chain
+pub mod Marked

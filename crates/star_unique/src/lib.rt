@@ -1,31 +1,35 @@
-// Names and codes that are taken: the first token that repeats one of its scope.
+// Names and codes that are taken: the first token that repeats one of its scope. While it is looked for, the kind word of each name or code that was
+// passed holds what it is compared as and, above that, the row of the last one before it in its bucket; the kinds are put back at the end.
 ghost use mathlib.Core.Path.{_≡_};
-ghost use Prim.Native.Nat.{_<_};
-ghost use lib.ListN.{take};
-ghost use Rattle.star_unique.specs.Repeat.{Taken, nothing, isTaken, takes, firstRepeat, same as Repeat·same};
+ghost use mathlib.Core.Bool.{_&&_};
+ghost use Prim.Native.Nat.{_+_, _*_, _%_, _≤_, _<_};
+ghost use lib.Dec.{eqb};
+ghost use lib.ListN.{length, getD};
+ghost use Rattle.star_unique.specs.Repeat.{nothing, firstRepeat, same as Repeat·same};
 ghost use Rattle.star_unique.specs.Holds.{Holds, fileTokens, tokenAt};
-ghost use Rattle.star_unique.specs.Seen.{takesAll, seenIn};
+ghost use Rattle.star_unique.specs.Chain.{sortOf, floorOf, passed, scopeAt, sortAt, mix, bucketOf, bucketAt, latest, earlier, kindOf, tableOf};
+ghost use Rattle.star_unique.specs.Marked.{Spans, Marked, Heads, Visited};
 
-// Whether two rows of bytes are equal.
+// Whether two rows of bytes are equal. Names of one family differ at their ends, so the last bytes are compared first.
 pub fn same(a: &[u8], b: &[u8]) -> bool
     ensures { λ r. ⌜ r ≡ Repeat·same (now (a .entry)) (now (b .entry)) ⌝ }
 {
     if a.len() != b.len() {
         return false;
     }
-    let mut i = 0;
-    while i < a.len() {
+    let mut i = a.len();
+    while i > 0 {
+        i -= 1;
         if a[i] != b[i] {
             return false;
         }
-        i += 1;
     }
     true
 }
 
-// The content of token `n`. It is called by proved layers only, which hand it table 1 of the file.
-pub fn content<'a>(file: &'a [u8], tokens: &[u32], count: usize, n: usize) -> &'a [u8]
-    requires { ⌜ Holds (now file) (now tokens) count ⌝ }
+// The part of the file that token `n` spans.
+fn span<'a>(file: &'a [u8], tokens: &[u32], count: usize, n: usize) -> &'a [u8]
+    requires { ⌜ Spans (now file) (now tokens) count ⌝ }
     requires { ⌜ n < count ⌝ }
     ensures { λ r. ⌜ now r ≡ tokenAt (now (file .entry)) n .content ⌝ }
 {
@@ -34,126 +38,232 @@ pub fn content<'a>(file: &'a [u8], tokens: &[u32], count: usize, n: usize) -> &'
     &file[start..end]
 }
 
-// Whether tokens `m` and `n` have equal contents.
-fn same_content(file: &[u8], tokens: &[u32], count: usize, m: usize, n: usize) -> bool
+// The content of token `n`. It is called by proved layers only, which hand it table 1 of the file.
+pub fn content<'a>(file: &'a [u8], tokens: &[u32], count: usize, n: usize) -> &'a [u8]
     requires { ⌜ Holds (now file) (now tokens) count ⌝ }
-    requires { ⌜ (m < count) × (n < count) ⌝ }
-    ensures { λ r. ⌜ r ≡ Repeat·same (tokenAt (now (file .entry)) m .content) (tokenAt (now (file .entry)) n .content) ⌝ }
+    requires { ⌜ n < count ⌝ }
+    ensures { λ r. ⌜ now r ≡ tokenAt (now (file .entry)) n .content ⌝ }
 {
-    same(
-        content(file, tokens, count, m),
-        content(file, tokens, count, n),
-    )
+    span(file, tokens, count, n)
 }
 
-// Where a content stands among what is taken: with the block codes, with the frame codes and own names of the open block, with the names of
-// the open frame; and whether a frame is open.
-struct Seen {
-    block: bool,
-    frame: bool,
-    name: bool,
-    inner: bool,
+// Where the scopes begin: the row after the heading of the open block, the row after the heading of the last frame, and whether that is open.
+struct Scope {
+    block: usize,
+    frame: usize,
     inside: bool,
 }
 
-// Where the content of token `n` stands after token `i`, from where it stood before.
-fn look(file: &[u8], tokens: &[u32], count: usize, n: usize, i: usize, mut seen: Seen) -> Seen
-    requires { ⌜ Holds (now file) (now tokens) count ⌝ }
-    requires { ⌜ (n < count) × (i < count) ⌝ }
-    ensures { λ r. ⌜ ((s : Taken) → seen ≡ seenIn (tokenAt (now (file .entry)) n .content) s
-        → r ≡ seenIn (tokenAt (now (file .entry)) n .content) (takes s (tokenAt (now (file .entry)) i))) ⌝ }
+// What a token is compared as: 1 a block code, 2 a frame code, 6 a name of a block, 13 a name of a frame, 0 nothing.
+fn sort_of(inside: bool, kind: u32) -> u32
+    ensures { λ r. ⌜ r ≡ sortOf inside kind ⌝ }
 {
-    let kind = tokens[i * 3];
-    if kind == 3 {
-        seen.inner = false;
-        seen.inside = false;
-        return seen;
+    if kind == 6 {
+        if inside {
+            return 13;
+        }
+        return 6;
     }
     if kind == 1 {
-        seen.block = seen.block | same_content(file, tokens, count, n, i);
-        seen.frame = false;
-        seen.name = false;
-        seen.inner = false;
-        seen.inside = false;
-        return seen;
+        return 1;
     }
     if kind == 2 {
-        seen.frame = seen.frame | same_content(file, tokens, count, n, i);
-        seen.inner = false;
-        seen.inside = true;
-        return seen;
+        return 2;
     }
-    if kind == 6 {
-        let equal = same_content(file, tokens, count, n, i);
-        let inside = seen.inside;
-        if inside {
-            seen.inner = seen.inner | equal;
-        } else {
-            seen.name = seen.name | equal;
-        }
-    }
-    seen
+    0
 }
 
-// Where the content of token `n` stands among what is taken before it.
-fn seen_before(file: &[u8], tokens: &[u32], count: usize, n: usize) -> Seen
-    requires { ⌜ Holds (now file) (now tokens) count ⌝ }
-    requires { ⌜ n < count ⌝ }
-    ensures { λ r. ⌜ r ≡ seenIn (tokenAt (now (file .entry)) n .content) (takesAll nothing (take n (fileTokens (now (file .entry))))) ⌝ }
+// The first row of the scope that a name or code of this sort is unique in.
+fn floor_of(scope: Scope, sort: u32) -> usize
+    ensures { λ r. ⌜ r ≡ floorOf scope sort ⌝ }
 {
-    let mut seen = Seen {
-        block: false,
-        frame: false,
-        name: false,
-        inner: false,
-        inside: false,
-    };
+    if sort == 1 {
+        return 0;
+    }
+    if sort == 13 {
+        return scope.frame;
+    }
+    scope.block
+}
+
+// The scopes after a token of this kind, whose next row is `next`.
+fn pass(scope: Scope, kind: u32, next: usize) -> Scope
+    ensures { λ r. ⌜ r ≡ passed scope kind next ⌝ }
+{
+    if kind == 1 {
+        return Scope {
+            block: next,
+            frame: next,
+            inside: false,
+        };
+    }
+    if kind == 2 {
+        return Scope {
+            block: scope.block,
+            frame: next,
+            inside: true,
+        };
+    }
+    if kind == 3 {
+        return Scope {
+            block: scope.block,
+            frame: scope.frame,
+            inside: false,
+        };
+    }
+    scope
+}
+
+// The bucket of a name or code.
+fn bucket(sort: u32, bytes: &[u8]) -> usize
+    ensures { λ r. ⌜ r ≡ bucketOf sort (now (bytes .entry)) ⌝ }
+{
+    let mut h = sort % 4096;
     let mut i = 0;
-    while i < n {
-        seen = look(file, tokens, count, n, i, seen);
+    while i < bytes.len() {
+        h = (h * 2685 + bytes[i] as u32) % 4096;
         i += 1;
     }
-    seen
+    h as usize
 }
 
-// Whether token `n` is a name or code that is taken before it.
-fn is_taken(file: &[u8], tokens: &[u32], count: usize, n: usize) -> bool
-    requires { ⌜ Holds (now file) (now tokens) count ⌝ }
-    requires { ⌜ n < count ⌝ }
-    ensures { λ r. ⌜ r ≡ isTaken (takesAll nothing (take n (fileTokens (now (file .entry))))) (tokenAt (now (file .entry)) n) ⌝ }
+// Whether token `m` is marked as of this sort and has these bytes.
+fn is_equal(file: &[u8], tokens: &[u32], count: usize, m: usize, sort: u32, bytes: &[u8]) -> bool
+    requires { ⌜ Spans (now file) (now tokens) count ⌝ }
+    requires { ⌜ m < count ⌝ }
+    ensures { λ r. ⌜ r ≡ (eqb (getD (now (tokens .entry)) (m * 3) 0 % 16) sort && Repeat·same (now (bytes .entry)) (tokenAt (now (file .entry)) m .content)) ⌝ }
 {
-    let kind = tokens[n * 3];
-    if kind == 1 {
-        let seen = seen_before(file, tokens, count, n);
-        return seen.block;
+    if tokens[m * 3] % 16 == sort {
+        same(bytes, span(file, tokens, count, m))
+    } else {
+        false
     }
-    if kind == 2 {
-        let seen = seen_before(file, tokens, count, n);
-        return seen.frame;
-    }
-    if kind == 6 {
-        let seen = seen_before(file, tokens, count, n);
-        let inside = seen.inside;
-        if inside {
-            return seen.inner;
+}
+
+// Whether a token before `n`, not before `floor`, is of this sort and has these bytes: the rows of their bucket are followed from the last.
+fn follow(
+    file: &[u8],
+    tokens: &[u32],
+    count: usize,
+    n: usize,
+    last: u32,
+    floor: usize,
+    sort: u32,
+    bytes: &[u8],
+) -> bool
+    requires { ⌜ Marked (now file) (now tokens) count 0 n ⌝ }
+    requires { ⌜ n ≤ count ⌝ }
+    requires { ⌜ (sort ≡ 0 → ⊥) ⌝ }
+    requires { ⌜ last ≡ latest (bucketAt (tokenAt (now file))) (bucketOf sort (now bytes)) n ⌝ }
+    ensures { λ r. ⌜ r ≡ earlier (tokenAt (now (file .entry))) sort (now (bytes .entry)) floor n ⌝ }
+{
+    let mut row = last as usize;
+    while row > floor {
+        if is_equal(file, tokens, count, row - 1, sort, bytes) {
+            return true;
         }
-        return seen.name;
+        row = (tokens[(row - 1) * 3] / 16) as usize;
     }
     false
 }
 
-// How many tokens stand before the first that repeats a name or code of its scope; all of them where none does. It is called by proved layers
-// only, which hand it table 1 of the file.
-pub fn first_repeat(file: &[u8], tokens: &[u32], count: usize) -> usize
-    requires { ⌜ Holds (now file) (now tokens) count ⌝ }
-    ensures { λ r. ⌜ r ≡ firstRepeat nothing (fileTokens (now (file .entry))) ⌝ }
+// Whether token `n` is a name or code that is taken; one that is not is marked and becomes the last of its bucket.
+fn visit(
+    file: &[u8],
+    tokens: &mut [u32],
+    count: usize,
+    heads: &mut [u32],
+    n: usize,
+    scope: Scope,
+) -> bool
+    requires { ⌜ Marked (now file) (now tokens) count 0 n ⌝ }
+    requires { ⌜ Heads (now file) (now heads) n ⌝ }
+    requires { ⌜ n < count ⌝ }
+    requires { ⌜ scope ≡ scopeAt (tokenAt (now file)) n ⌝ }
+    ensures { λ r. ⌜ Visited (now (file .entry)) count n r (now (tokens .exit)) (now (heads .exit)) ⌝ }
 {
+    let inside = scope.inside;
+    let sort = sort_of(inside, tokens[n * 3]);
+    if sort == 0 {
+        return false;
+    }
+    let bytes = span(file, tokens, count, n);
+    let b = bucket(sort, bytes);
+    let last = heads[b];
+    if follow(
+        file,
+        tokens,
+        count,
+        n,
+        last,
+        floor_of(scope, sort),
+        sort,
+        bytes,
+    ) {
+        return true;
+    }
+    tokens[n * 3] = sort + last * 16;
+    heads[b] = n as u32 + 1;
+    false
+}
+
+// How many tokens stand before the first that is taken; those are marked.
+fn mark(file: &[u8], tokens: &mut [u32], count: usize, heads: &mut [u32]) -> usize
+    requires { ⌜ Holds (now file) (now tokens) count ⌝ }
+    requires { ⌜ Heads (now file) (now heads) 0 ⌝ }
+    ensures { λ r. ⌜ r ≡ firstRepeat nothing (fileTokens (now (file .entry))) ⌝ }
+    ensures { λ r. ⌜ Marked (now (file .entry)) (now (tokens .exit)) count 0 r ⌝ }
+{
+    let mut scope = Scope {
+        block: 0,
+        frame: 0,
+        inside: false,
+    };
     let mut n = 0;
     while n < count {
-        if is_taken(file, tokens, count, n) {
+        let kind = tokens[n * 3];
+        if visit(file, tokens, count, heads, n, scope) {
             return n;
         }
         n += 1;
+        scope = pass(scope, kind, n);
     }
+    n
+}
+
+// The kind of a token from its word, marked or not.
+fn kind_of(word: u32) -> u32
+    ensures { λ r. ⌜ r ≡ kindOf word ⌝ }
+{
+    let low = word % 16;
+    if low == 13 {
+        return 6;
+    }
+    low
+}
+
+// Puts the kinds of so many tokens back.
+fn unmark(file: &[u8], tokens: &mut [u32], count: usize, rows: usize)
+    requires { ⌜ Marked (now file) (now tokens) count 0 rows ⌝ }
+    requires { ⌜ rows ≤ count ⌝ }
+    ensures { λ _. ⌜ now (tokens .exit) ≡ tableOf (now (file .entry)) (length (now (tokens .entry))) ⌝ }
+{
+    let mut n = 0;
+    while n < rows {
+        tokens[n * 3] = kind_of(tokens[n * 3]);
+        n += 1;
+    }
+}
+
+// How many tokens stand before the first that repeats a name or code of its scope; all of them where none does. It is called by proved layers
+// only, which hand it table 1 of the file, and it leaves the table as it was.
+pub fn first_repeat(file: &[u8], tokens: &mut [u32], count: usize) -> usize
+    requires { ⌜ Holds (now file) (now tokens) count ⌝ }
+    ensures { λ r. ⌜ r ≡ firstRepeat nothing (fileTokens (now (file .entry))) ⌝ }
+    ensures { λ _. ⌜ now (tokens .exit) ≡ now (tokens .entry) ⌝ }
+{
+    let mut heads: [u32; 4096] = [0; 4096];
+    let n = mark(file, tokens, count, &mut heads);
+    unmark(file, tokens, count, n);
     n
 }

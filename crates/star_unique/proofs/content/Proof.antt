@@ -1,71 +1,13 @@
--- `content` meets its contract: the table's row of the token has its span.
-use Prim.Native.Nat.{_+_, _*_}
-use native.Mathlib.Omega.{arith}
-use borrow.Author.Needs.{needs}
-use Rattle.star_unique.proofs.Held.{Row, held-row}
+-- `content` meets its contract: a table that holds the tokens has their spans.
+use Rattle.star_unique.proofs.Marks.{holds-spans}
 use Rattle.star_unique.proofs.content.Statement.{statement}
 use Rattle.star_unique.proofs.content.Tie as tie
 
-held : (c : tie.Start) → Row (c .args .file .now) (c .args .tokens .now) (c .args .n)
-held c = held-row _ _ _ (c .pre .0) _ (c .pre .1)
-
-mul-start : tie.Need-mul-start
-mul-start c = search needs
-
-add-start : tie.Need-add-start
-add-start c = search needs
-
-mul-start-2 : tie.Need-mul-start-2
-mul-start-2 c = search needs
-
-shared-slice-read-start : tie.Need-shared-slice-read-start
-shared-slice-read-start c = search needs
-
-cast-start : tie.Need-cast-start
-cast-start c = omega (arith, c .shared-slice-known .given (c .before .args .n * 3 + 1))
-
-mul-end : tie.Need-mul-end
-mul-end c = search needs
-
-add-end : tie.Need-add-end
-add-end c = search needs
-
-mul-end-2 : tie.Need-mul-end-2
-mul-end-2 c = search needs
-
-shared-slice-read-end : tie.Need-shared-slice-read-end
-shared-slice-read-end c = search needs
-
-cast-end : tie.Need-cast-end
-cast-end c = omega (arith, c .shared-slice-known2 .given (c .before .before .args .n * 3 + 2))
-
-sub-result : tie.Need-sub-result
-sub-result c = held (c .before .before) .ordered
-
-part-result-start : tie.Need-part-result-start
-part-result-start c = held (c .before .before) .ordered
-
-part-result-end : tie.Need-part-result-end
-part-result-end c = held (c .before .before) .within
+span-requires : tie.Need-span-requires
+span-requires c κs = (holds-spans _ _ _ (c .before .before .pre .0), c .before .before .pre .1)
 
 returns : tie.Need-returns
-returns c = held (c .before .before .before) .content
+returns c = c .span .ensures
 
 pub content-spec : {M : Type 1} → statement M
-content-spec =
-    tie.close
-    (tie.spec
-    mul-start
-    add-start
-    mul-start-2
-    shared-slice-read-start
-    cast-start
-    mul-end
-    add-end
-    mul-end-2
-    shared-slice-read-end
-    cast-end
-    sub-result
-    part-result-start
-    part-result-end
-    returns)
+content-spec = tie.close (tie.spec span-requires returns)

@@ -1,0 +1,152 @@
+-- Table 1 while it is marked: marking a row changes its kind word alone, and a marked word has the sort and the link of its row.
+use mathlib.Core.Path.{_≡_, refl, sym, _∙_, ap, subst}
+use mathlib.Core.Bool.{Bool, true, false, cond, _&&_}
+use mathlib.Core.List.{List, [], _∷_}
+use Prim.Native.Nat.{ℕ, zero, suc, _+_, _-_, _*_, _/_, _%_, _≤_, _<_}
+use native.Mathlib.Numerals.{add-one}
+use native.Mathlib.Omega.{arith}
+use lib.Dec.{eqb}
+use borrow.Author.Tests.{eqb-true, eqb-false, eq-eqb, ne-eqb}
+use lib.ListN.{length, getD, set, take, drop, length-set, drop-of-length-le}
+use lib.Seq.{drop-cons, getD-set-same, getD-set-other, ext-getD}
+use Rattle.star_lex.specs.Tokens.{Token, tokenRow}
+use Rattle.star_lex.specs.Split.{tokensOf, placed}
+use Rattle.star_unique.specs.Repeat.{same}
+use Rattle.star_unique.specs.Holds.{Holds, tokenAt}
+use Rattle.star_unique.specs.Chain.{tableOf, sortOf, sortAt, scopeAt, mix, bucketOf, bucketAt, latest, markAt, kindOf, earlier}
+use Rattle.star_unique.specs.Marked.{Spans, Marked, Heads}
+use Rattle.star_unique.proofs.Held.{Row, held-row}
+use Rattle.star_unique.proofs.Chain.{latest-within, latest-again, latest-in, bucket-below, bucket-named, bucket-none, bucket-sort, earlier-floor, earlier-other, earlier-here, earlier-last}
+
+module _ (h : ℕ) (x : List ℕ) (i : ℕ) where
+  pub mix-next : i < length x → mix h (drop i x) ≡ mix ((h * 2685 + getD x i 0) % 4096) (drop (i + 1) x)
+  unfolding mix
+  mix-next k = rw (drop-cons x i 0 k, add-one)
+
+  pub mix-end : length x ≤ i → mix h (drop i x) ≡ h
+  unfolding mix
+  mix-end k = rw (drop-of-length-le x k)
+
+-- the span of a token
+pub record Span (file words : List ℕ) (n : ℕ) : Type 0 where
+  pub room : n * 3 + 3 ≤ length words
+  pub small : length file ≤ 1048576
+  pub ordered : getD words (n * 3 + 1) 0 ≤ getD words (n * 3 + 2) 0
+  pub within : getD words (n * 3 + 2) 0 ≤ length file
+  pub content : take (getD words (n * 3 + 2) 0 - getD words (n * 3 + 1) 0) (drop (getD words (n * 3 + 1) 0) file) ≡ tokenAt file n .content
+
+-- a table that holds the tokens, as table 1 of so many words
+pub holds-spans : (file words : List ℕ) (count : ℕ) → Holds file words count → Spans file words count
+holds-spans file words count h = record {
+  table = subst (λ ws. Holds file ws count) (h .rows) h;
+  size = sym (ap length (h .rows));
+  starts = λ m. ap (λ ws. getD ws (m * 3 + 1) 0) (h .rows);
+  ends = λ m. ap (λ ws. getD ws (m * 3 + 2) 0) (h .rows);
+}
+
+pub spans-at : (file words : List ℕ) (count : ℕ) → Spans file words count → (n : ℕ) → n < count → Span file words n
+spans-at file words count s n h =
+    let r : Row file (tableOf file (length words)) n = held-row file (tableOf file (length words)) count (s .table) n h in
+    record {
+      room = omega (arith, s .table .room, s .table .count-is, s .size);
+      small = s .table .small;
+      ordered = rw (s .starts n, s .ends n) (r .ordered);
+      within = rw (s .ends n) (r .within);
+      content = rw (s .starts n, s .ends n) (r .content);
+    }
+
+-- following the rows of a bucket from the last: every row is its own last, and the rows passed are not equal
+pub record Follows (at : ℕ → Token) (sort : ℕ) (x : List ℕ) (floor n row : ℕ) : Type 0 where
+  pub within : row ≤ n
+  pub own : row ≡ latest (bucketAt at) (bucketOf sort x) row
+  pub says : earlier at sort x floor row ≡ earlier at sort x floor n
+
+module _ (at : ℕ → Token) (sort : ℕ) (x : List ℕ) (floor n : ℕ) (some : sort ≡ 0 → ⊥) where
+  pub follow-start : Follows at sort x floor n (latest (bucketAt at) (bucketOf sort x) n)
+  follow-start = record {
+    within = latest-within (bucketAt at) (bucketOf sort x) n;
+    own = latest-again (bucketAt at) (bucketOf sort x) n;
+    says = earlier-last at sort x floor some n;
+  }
+
+  pub follow-end : (row : ℕ) → Follows at sort x floor n row → row ≤ floor → false ≡ earlier at sort x floor n
+  follow-end row f h = sym (earlier-floor at sort x floor row h) ∙ f .says
+
+  module _ (m : ℕ) (f : Follows at sort x floor n (suc m)) where
+    pub follow-bucket : bucketAt at m ≡ bucketOf sort x
+    follow-bucket = latest-in (bucketAt at) (bucketOf sort x) m (f .own)
+
+    pub follow-sort : sortAt at m ≡ 0 → ⊥
+    follow-sort = bucket-sort at m (rw follow-bucket (bucket-below sort x))
+
+    pub follow-hit : floor ≤ m → (eqb (sortAt at m) sort && same x (at m .content)) ≡ true → true ≡ earlier at sort x floor n
+    follow-hit h e = sym (earlier-here at sort x floor m h e) ∙ f .says
+
+    pub follow-miss : (eqb (sortAt at m) sort && same x (at m .content)) ≡ false → Follows at sort x floor n (latest (bucketAt at) (bucketAt at m) m)
+    follow-miss e = rw follow-bucket (record {
+      within = omega (arith, latest-within (bucketAt at) (bucketOf sort x) m, f .within);
+      own = latest-again (bucketAt at) (bucketOf sort x) m;
+      says = earlier-last at sort x floor some m ∙ sym (earlier-other at sort x floor m e) ∙ f .says;
+    })
+
+-- the word of a marked row
+module _ (at : ℕ → Token) (n : ℕ) where
+  pub sort-below : sortAt at n < 16
+  unfolding sortAt sortOf
+  sort-below = go (scopeAt at n .inside) (eqb (at n .kind) 6) (eqb (at n .kind) 1) (eqb (at n .kind) 2)
+    where
+      go : (i p q r : Bool) → cond p (cond i 13 6) (cond q 1 (cond r 2 0)) < 16
+      go true true q r = omega arith
+      go false true q r = omega arith
+      go i false true r = omega arith
+      go i false false true = omega arith
+      go i false false false = omega arith
+
+  module _ (some : sortAt at n ≡ 0 → ⊥) where
+    pub mark-is : markAt at n ≡ sortAt at n + latest (bucketAt at) (bucketAt at n) n * 16
+    unfolding markAt
+    mark-is = rw (ne-eqb (sortAt at n) 0 some)
+
+    pub mark-sort : markAt at n % 16 ≡ sortAt at n
+    mark-sort = rw mark-is (omega (arith, sort-below))
+
+    pub mark-link : markAt at n / 16 ≡ latest (bucketAt at) (bucketAt at n) n
+    mark-link = rw mark-is (omega (arith, sort-below))
+
+-- a row of a bucket, as the table has it
+module _ (file words : List ℕ) (count n sort : ℕ) (x : List ℕ) (floor row : ℕ) (k : Marked file words count 0 n) (some : sort ≡ 0 → ⊥)
+    (f : Follows (tokenAt file) sort x floor n row) (h : floor < row) where
+  back : row ≡ suc (row - 1)
+  back = omega arith
+
+  at-row : Follows (tokenAt file) sort x floor n (suc (row - 1))
+  at-row = subst (λ r. Follows (tokenAt file) sort x floor n r) back f
+
+  word-is : getD words ((row - 1) * 3) 0 ≡ markAt (tokenAt file) (row - 1)
+  word-is = k .marked (row - 1) (omega arith) (omega (arith, f .within))
+
+  named : sortAt (tokenAt file) (row - 1) ≡ 0 → ⊥
+  named = follow-sort (tokenAt file) sort x floor n some (row - 1) at-row
+
+  equal-is : (eqb (getD words ((row - 1) * 3) 0 % 16) sort && same x (tokenAt file (row - 1) .content))
+      ≡ (eqb (sortAt (tokenAt file) (row - 1)) sort && same x (tokenAt file (row - 1) .content))
+  equal-is = rw (word-is, mark-sort (tokenAt file) (row - 1) named)
+
+  link-is : getD words ((row - 1) * 3) 0 / 16 ≡ latest (bucketAt (tokenAt file)) (bucketAt (tokenAt file) (row - 1)) (row - 1)
+  link-is = rw word-is (mark-link (tokenAt file) (row - 1) named)
+
+  pub turn-hit : (eqb (getD words ((row - 1) * 3) 0 % 16) sort && same x (tokenAt file (row - 1) .content)) ≡ true
+      → true ≡ earlier (tokenAt file) sort x floor n
+  turn-hit e = follow-hit (tokenAt file) sort x floor n some (row - 1) at-row (omega arith) (sym equal-is ∙ e)
+
+  pub turn-miss : (eqb (getD words ((row - 1) * 3) 0 % 16) sort && same x (tokenAt file (row - 1) .content)) ≡ false
+      → Follows (tokenAt file) sort x floor n (getD words ((row - 1) * 3) 0 / 16)
+  turn-miss e =
+      subst (λ r. Follows (tokenAt file) sort x floor n r) (sym link-is)
+      (follow-miss (tokenAt file) sort x floor n some (row - 1) at-row (sym equal-is ∙ e))
+
+  pub turn-less : getD words ((row - 1) * 3) 0 / 16 < row
+  turn-less = rw link-is (omega (arith, latest-within (bucketAt (tokenAt file)) (bucketAt (tokenAt file) (row - 1)) (row - 1)))
+
+  pub turn-span : n ≤ count → Span file words (row - 1)
+  turn-span below = spans-at file words count (k .spans) (row - 1) (omega (arith, f .within))

@@ -1,0 +1,73 @@
+-- How a repeat is looked for: names and codes lie in buckets, and each row knows the last row before it in its bucket. This is an aid of the proof;
+-- what a repeat is, specs/Repeat.antt says.
+use mathlib.Core.Bool.{Bool, true, false, cond, _&&_, _||_}
+use mathlib.Core.List.{List, [], _∷_}
+use Prim.Native.Nat.{ℕ, zero, suc, _+_, _*_, _%_}
+use lib.Dec.{eqb, leb}
+use Rattle.star_rows.specs.Rows.{holding}
+use Rattle.star_lex.specs.Tokens.{Token, tokenRow}
+use Rattle.star_lex.specs.Split.{tokensOf, placed}
+use Rattle.star_unique.specs.Repeat.{same}
+use Rattle.star_unique.specs.declared.Scope.{Scope}
+
+-- table 1 of a file in so many words
+abbrev pub tableOf : List ℕ → ℕ → List ℕ
+tableOf file words = holding tokenRow (placed (tokensOf file)) words
+
+-- what a token is compared as: 1 a block code, 2 a frame code, 6 a name of a block, 13 a name of a frame, 0 nothing
+unfoldable pub sortOf : (inside : Bool) (kind : ℕ) → ℕ
+sortOf inside kind = cond (eqb kind 6) (cond inside 13 6) (cond (eqb kind 1) 1 (cond (eqb kind 2) 2 0))
+
+-- the first row of the scope that a name or code of this sort is unique in
+unfoldable pub floorOf : Scope → (sort : ℕ) → ℕ
+floorOf s sort = cond (eqb sort 1) 0 (cond (eqb sort 13) (s .frame) (s .block))
+
+-- the scopes after a token of this kind, with the row after it
+unfoldable pub passed : Scope → (kind next : ℕ) → Scope
+passed s kind next =
+    cond (eqb kind 1) (record { block = next; frame = next; inside = false })
+    (cond (eqb kind 2) (record { block = s .block; frame = next; inside = true })
+    (cond (eqb kind 3) (record { block = s .block; frame = s .frame; inside = false }) s))
+
+-- the scopes before the n-th token of a row, counted from 0
+unfoldable pub scopeAt : (ℕ → Token) → ℕ → Scope
+scopeAt at zero = record { block = 0; frame = 0; inside = false }
+scopeAt at (suc n) = passed (scopeAt at n) (at n .kind) (suc n)
+
+unfoldable pub sortAt : (ℕ → Token) → ℕ → ℕ
+sortAt at n = sortOf (scopeAt at n .inside) (at n .kind)
+
+-- the bucket of a name or code, below 4096
+unfoldable pub mix : ℕ → List ℕ → ℕ
+mix h [] = h
+mix h (b ∷ bs) = mix ((h * 2685 + b) % 4096) bs
+
+unfoldable pub bucketOf : (sort : ℕ) → List ℕ → ℕ
+bucketOf sort x = mix (sort % 4096) x
+
+-- the bucket of a token; 4096 where it is no name or code
+unfoldable pub bucketAt : (ℕ → Token) → ℕ → ℕ
+bucketAt at n = cond (eqb (sortAt at n) 0) 4096 (bucketOf (sortAt at n) (at n .content))
+
+-- the last row below n, counted from 1, that lies in a bucket, or 0
+unfoldable pub latest : (ℕ → ℕ) → (bucket n : ℕ) → ℕ
+latest f b zero = 0
+latest f b (suc m) = cond (eqb (f m) b) (suc m) (latest f b m)
+
+-- the kind word of a row that was passed
+unfoldable pub markAt : (ℕ → Token) → ℕ → ℕ
+markAt at n = cond (eqb (sortAt at n) 0) (at n .kind) (sortAt at n + latest (bucketAt at) (bucketAt at n) n * 16)
+
+-- the kind that a marked word stands for
+unfoldable pub kindOf : ℕ → ℕ
+kindOf word = cond (eqb (word % 16) 13) 6 (word % 16)
+
+-- a token before the n-th, not before the floor, is of this sort and has these bytes
+unfoldable pub earlier : (ℕ → Token) → (sort : ℕ) → List ℕ → (floor n : ℕ) → Bool
+earlier at sort x floor zero = false
+earlier at sort x floor (suc m) = earlier at sort x floor m || (leb floor m && (eqb (sortAt at m) sort && same x (at m .content)))
+
+-- the n-th token is a name or code that is taken
+unfoldable pub takenAt : (ℕ → Token) → ℕ → Bool
+takenAt at n =
+    cond (eqb (sortAt at n) 0) false (earlier at (sortAt at n) (at n .content) (floorOf (scopeAt at n) (sortAt at n)) n)
