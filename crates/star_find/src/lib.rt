@@ -4,7 +4,7 @@ ghost use mathlib.Core.Bool.{cond, true, _&&_};
 ghost use Prim.Native.Nat.{_*_, _+_, _-_, _≤_};
 ghost use lib.Dec.{eqb};
 ghost use lib.ListN.{length};
-ghost use Rattle.star_find.specs.Find.{lent, fits, isRow, contentAt, findBlock, findFrame, findName, isWanted, matchOf, wordOf, seek as Find·seek, kth, located as Find·located, locate as Find·locate, valueAt, valueOf, valuePart, valueSpan};
+ghost use Rattle.star_find.specs.Find.{lent, fits, isRow, contentAt, findBlock, findFrame, findName, isWanted, matchOf, wordOf, seek as Find·seek, kth, locate as Find·locate, valueAt, valuePart, valueSpan};
 ghost use Rattle.star_lex.specs.Found.{isSome};
 ghost use mathlib.Core.Option.{some};
 ghost use Rattle.star_find.specs.declared.Match.the-variants.{Other};

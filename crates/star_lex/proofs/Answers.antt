@@ -1,8 +1,8 @@
 -- What the checks in their order answer: each answers the definition where those before it have passed.
-use mathlib.Core.Path.{_≡_, refl, sym, _∙_, ap}
-use mathlib.Core.Bool.{true, false, cond}
-use mathlib.Core.List.{List, []}
-use Prim.Native.Nat.{ℕ, _*_, _/_, _≤_, _<_}
+use mathlib.Core.Path.{_≡_, refl, ap}
+use mathlib.Core.Bool.{true}
+use mathlib.Core.List.{List}
+use Prim.Native.Nat.{ℕ, _/_, _≤_, _<_}
 use native.Mathlib.Omega.{arith}
 use borrow.Author.Tests.{lt-ltb, le-ltb, le-leb, lt-leb}
 use lib.ListN.{length}
@@ -12,7 +12,6 @@ use Rattle.star_lex.specs.Tokens.{Placed}
 use Rattle.star_lex.specs.Split.{Split, refused, accepted, split, tokensOf}
 use Rattle.star_lex.specs.Found.{fitting, tokensIn, answerOf}
 use Rattle.star_lex.specs.declared.Tokens.{Tokens}
-use Rattle.star_lex.proofs.Cases.{impossible}
 use Rattle.star_lex.proofs.Splitting.{split-refused}
 
 module _ (file : List ℕ) (words : ℕ) where

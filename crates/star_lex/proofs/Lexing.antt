@@ -2,9 +2,9 @@
 -- exactly where it closes, and a word's content and what stands before it are the whole word.
 use mathlib.Core.Path.{_≡_, refl, sym, _∙_, ap}
 use mathlib.Core.Bool.{Bool, true, false, cond, not}
-use mathlib.Core.List.{List, [], _∷_, _++_}
+use mathlib.Core.List.{List, [], _∷_}
 use mathlib.Core.Option.{Option, none, some}
-use Prim.Native.Nat.{ℕ, zero, suc, _+_, _-_, _≤_, _<_}
+use Prim.Native.Nat.{ℕ, suc, _+_, _-_, _≤_, _<_}
 use native.Mathlib.Nat.{zero-add}
 use native.Mathlib.Numerals.{add-one}
 use native.Mathlib.Omega.{arith}
@@ -13,10 +13,10 @@ use lib.ListN.{length, getD, take, drop, length-append, length-drop}
 use lib.Seq.{drop-cons, drop-drop, getD-drop}
 use Rattle.star_text.specs.Bytes.{isWhite, classOf, run}
 use Rattle.star_text.proofs.Run.{run-agree, run-take, below-white}
-use Rattle.star_lex.specs.Tokens.{Token, opening, dataWord, saveWord, loopWord, stopWord, globalWord}
+use Rattle.star_lex.specs.Tokens.{opening, dataWord, saveWord, loopWord, stopWord, globalWord}
 use Rattle.star_lex.specs.Split.{Lexeme, gap, token, faulty, after, either, quoted, field, whiteNext, limited, blockWord, frameWord, alone, nameWord, referenceWord, wordLexeme, quotedLexeme, fieldLexeme}
 use Rattle.star_lex.specs.Found.{foundAt, endOf, kindOf}
-use Rattle.star_lex.specs.declared.Found.the-variants.{Gap, Token as FoundToken, Fault}
+use Rattle.star_lex.specs.declared.Found.the-variants.{Token as FoundToken, Fault}
 use Rattle.star_lex.specs.declared.word.Word.the-variants.{Kind, Ill}
 use Rattle.star_lex.proofs.Cases.{impossible}
 use Rattle.star_lex.proofs.Delimited.{quoted-some, field-some}

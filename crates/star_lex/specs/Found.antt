@@ -2,11 +2,11 @@
 use mathlib.Core.Bool.{Bool, true, false, cond}
 use mathlib.Core.List.{List}
 use mathlib.Core.Option.{Option, none, some}
-use Prim.Native.Nat.{ℕ, suc, _+_, _*_}
+use Prim.Native.Nat.{ℕ, _+_, _*_}
 use lib.Dec.{leb}
 use lib.ListN.{length, replicate}
 use Rattle.star_rows.specs.Rows.{holding}
-use Rattle.star_lex.specs.Tokens.{Token, Placed, opening, tokenRow}
+use Rattle.star_lex.specs.Tokens.{opening, tokenRow}
 use Rattle.star_lex.specs.Split.{Lexeme, gap, token, faulty, Split, refused, accepted, tokensOf}
 use Rattle.star_lex.specs.declared.Found.{Found}
 use Rattle.star_lex.specs.declared.Found.the-variants.{Gap, Token as FoundToken, Fault}

@@ -7,7 +7,6 @@ use Prim.Native.Nat.{ℕ, zero, suc, _+_, _*_, _≤_, _<_}
 use native.Mathlib.Nat.{add-zero}
 use native.Mathlib.Omega.{arith}
 use borrow.Author.Tests.{lt-ltb, le-ltb}
-use lib.Dec.{ltb}
 use lib.ListN.{length, getD}
 use Rattle.star_rows.proofs.Held.{held-word}
 use Rattle.star_lex.specs.Tokens.{Token, Placed, opening, tokenRow}
@@ -19,9 +18,8 @@ use Rattle.star_grammar.specs.declared.Parsed.{Parsed}
 use Rattle.star_grammar.proofs.Walking.{Halts, bad-halts}
 use Rattle.star_grammar.proofs.Refusals.{Refusal, refusal, EndRefusal, end-refusal}
 use Rattle.star_unique.specs.Holds.{Holds}
-use Rattle.star_read.specs.Read.{Outcome, refused, accepted, Sizes, placeOf, decide, fitting}
+use Rattle.star_read.specs.Read.{Outcome, accepted, Sizes, placeOf, decide, fitting}
 use Rattle.star_read.specs.Answer.{judgedOf, roomOf, words, Ran}
-use Rattle.star_read.specs.declared.Judged.{Judged}
 
 -- no token, which stands where there is none
 abbrev nowhere : Placed

@@ -1,12 +1,12 @@
 -- What an answer of `judge` tells of the outcome: a refusal is the outcome's, and no refusal means that the run is good and every table has room.
 use mathlib.Core.Path.{_≡_, refl, sym, _∙_, ap, subst}
-use mathlib.Core.Bool.{Bool, true, false, cond}
+use mathlib.Core.Bool.{Bool, true, false}
 use mathlib.Core.List.{List}
 use Prim.Native.Nat.{ℕ, _*_, _≤_}
 use native.Mathlib.Omega.{arith}
 use borrow.Author.Tests.{ltb-false}
 use lib.Dec.{ltb}
-use lib.ListN.{length, replicate}
+use lib.ListN.{length}
 use Rattle.star_rows.specs.Rows.{holding, clearedFrom}
 use Rattle.star_rows.proofs.Stored.{stored-holding}
 use Rattle.star_lex.specs.Tokens.{Placed, tokenRow}

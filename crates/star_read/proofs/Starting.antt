@@ -1,6 +1,6 @@
 -- From the answer on the tokens to reading: a refusal of the tokens is reading's, and an accepted file has its tokens in table 1.
-use mathlib.Core.Path.{_≡_, refl, sym, _∙_, ap, subst}
-use mathlib.Core.Bool.{Bool, true, false, cond}
+use mathlib.Core.Path.{_≡_, refl, sym, _∙_, ap}
+use mathlib.Core.Bool.{true}
 use mathlib.Core.List.{List}
 use Prim.Native.Nat.{ℕ, _*_, _≤_}
 use native.Mathlib.Omega.{arith}
@@ -8,9 +8,8 @@ use borrow.Author.Tests.{leb-true}
 use lib.Dec.{leb, ltb}
 use lib.ListN.{length}
 use Rattle.star_text.specs.Bytes.{firstRefused}
-use Rattle.star_rows.specs.Rows.{holding}
-use Rattle.star_lex.specs.Tokens.{Placed, tokenRow}
-use Rattle.star_lex.specs.Split.{Split, split, tokensOf, placed}
+use Rattle.star_lex.specs.Tokens.{Placed}
+use Rattle.star_lex.specs.Split.{Split, tokensOf, placed}
 use Rattle.star_lex.specs.Split as Split
 use Rattle.star_lex.specs.Found.{tokensIn, tableOf}
 use Rattle.star_lex.specs.Found as Found
@@ -19,7 +18,7 @@ use Rattle.star_lex.proofs.Cases.{impossible, cond-cases}
 use Rattle.star_lex.proofs.Splitting.{split-refused}
 use Rattle.star_lex.proofs.Answers.{answer-refused}
 use Rattle.star_unique.specs.Holds.{Holds}
-use Rattle.star_read.specs.Read.{Outcome, refused, Sizes, fitting, grammarOf, after, readOf}
+use Rattle.star_read.specs.Read.{refused, Sizes, fitting, grammarOf, after, readOf}
 use Rattle.star_read.proofs.Fitting.{tokens-accepted}
 
 -- a refusal of the tokens is not 0

@@ -1,13 +1,12 @@
 // Reading a STAR File from lent bytes into five lent tables.
 ghost use mathlib.Core.Path.{_≡_};
-ghost use Prim.Native.Nat.{_≤_};
-ghost use lib.ListN.{length, replicate};
+ghost use lib.ListN.{length};
 ghost use Rattle.star_lex.specs.Split.{placed, tokensOf};
 ghost use Rattle.star_grammar.specs.Tables.{noRows};
 ghost use Rattle.star_grammar.specs.Machine.{run, start};
 ghost use Rattle.star_unique.specs.Holds.{Holds, fileTokens};
 ghost use Rattle.star_read.specs.Read.{refused, placeOf, fitting, grammarOf, readOf};
-ghost use Rattle.star_read.specs.Answer.{answerOf, tables, tablesOf, sizes, judgedOf, words, roomOf, Ran, Leaves, ClearedBehind};
+ghost use Rattle.star_read.specs.Answer.{answerOf, tables, sizes, judgedOf, words, roomOf, Ran, Leaves, ClearedBehind};
 ghost use Rattle.star_grammar.specs.Parsed.{tables as four};
 use star_grammar::Parsed;
 

@@ -1,7 +1,7 @@
 -- Laws of clearing a table from a place on.
-use mathlib.Core.Path.{_≡_, refl, sym, _∙_, ap}
+use mathlib.Core.Path.{_≡_, sym, _∙_, ap}
 use mathlib.Core.List.{List, [], _∷_, _++_, append-nil}
-use Prim.Native.Nat.{ℕ, zero, suc, _+_, _-_, _≤_, _<_}
+use Prim.Native.Nat.{ℕ, _+_, _-_, _≤_, _<_}
 use native.Mathlib.Nat.{zero-add, suc-add, sub-self, sub-zero, le-of-eq}
 use native.Mathlib.Omega.{arith}
 use borrow.Author.Fill.{fill-more}

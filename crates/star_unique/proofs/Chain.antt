@@ -1,6 +1,6 @@
 -- The rows of a bucket, followed from the last, are all that can be equal: equal contents of one sort lie in one bucket.
-use mathlib.Core.Path.{_≡_, refl, sym, _∙_, ap}
-use mathlib.Core.Bool.{Bool, true, false, cond, _&&_, _||_, or-false}
+use mathlib.Core.Path.{_≡_, refl, sym, _∙_}
+use mathlib.Core.Bool.{Bool, true, false, cond, _&&_, _||_}
 use mathlib.Core.List.{List, [], _∷_}
 use Prim.Native.Nat.{ℕ, zero, suc, _+_, _*_, _%_, _≤_, _<_}
 use native.Mathlib.Nat.{mod-lt}
@@ -10,7 +10,7 @@ use borrow.Author.Tests.{eqb-true, eq-eqb, ne-eqb, le-leb, lt-leb}
 use Rattle.star_lex.specs.Tokens.{Token}
 use Rattle.star_lex.proofs.Cases.{impossible}
 use Rattle.star_unique.specs.Repeat.{same}
-use Rattle.star_unique.specs.Chain.{sortOf, sortAt, mix, bucketOf, bucketAt, latest, markAt, earlier}
+use Rattle.star_unique.specs.Chain.{sortAt, mix, bucketOf, bucketAt, latest, earlier}
 use Rattle.star_unique.proofs.Distinct.{same-true}
 
 module _ (f : ℕ → ℕ) (b : ℕ) where

@@ -3,7 +3,6 @@ use mathlib.Core.Path.{_≡_, refl, sym, _∙_, ap, subst}
 use mathlib.Core.Bool.{Bool, true, false, cond}
 use mathlib.Core.List.{List}
 use Prim.Native.Nat.{ℕ, zero, suc, _+_, _*_, _≤_, _<_}
-use native.Mathlib.Nat.{le-refl}
 use native.Mathlib.Numerals.{add-one}
 use native.Mathlib.Omega.{arith}
 use lib.Dec.{eqb, ltb}
@@ -14,7 +13,7 @@ use Rattle.star_lex.specs.Tokens.{Token}
 use Rattle.star_unique.specs.Repeat.{nothing, isTaken, firstRepeat}
 use Rattle.star_unique.specs.Seen.{takesAll}
 use Rattle.star_unique.specs.Holds.{Holds, fileTokens, tokenAt}
-use Rattle.star_unique.specs.Chain.{tableOf, sortOf, sortAt, passed, scopeAt, floorOf, bucketOf, bucketAt, latest, markAt, kindOf, earlier, takenAt}
+use Rattle.star_unique.specs.Chain.{tableOf, sortOf, sortAt, passed, scopeAt, floorOf, bucketOf, bucketAt, latest, markAt, earlier, takenAt}
 use Rattle.star_unique.specs.Marked.{Spans, Marked, Heads, Visited}
 use Rattle.star_unique.specs.declared.Scope.{Scope}
 use Rattle.star_unique.proofs.Clean.{Clean, clean-next, repeat-here, clean-repeat}

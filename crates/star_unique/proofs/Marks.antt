@@ -1,22 +1,21 @@
 -- Table 1 while it is marked: marking a row changes its kind word alone, and a marked word has the sort and the link of its row.
-use mathlib.Core.Path.{_≡_, refl, sym, _∙_, ap, subst}
+use mathlib.Core.Path.{_≡_, sym, _∙_, ap, subst}
 use mathlib.Core.Bool.{Bool, true, false, cond, _&&_}
-use mathlib.Core.List.{List, [], _∷_}
-use Prim.Native.Nat.{ℕ, zero, suc, _+_, _-_, _*_, _/_, _%_, _≤_, _<_}
+use mathlib.Core.List.{List}
+use Prim.Native.Nat.{ℕ, suc, _+_, _-_, _*_, _/_, _%_, _≤_, _<_}
 use native.Mathlib.Numerals.{add-one}
 use native.Mathlib.Omega.{arith}
 use lib.Dec.{eqb}
-use borrow.Author.Tests.{eqb-true, eqb-false, eq-eqb, ne-eqb}
-use lib.ListN.{length, getD, set, take, drop, length-set, drop-of-length-le}
-use lib.Seq.{drop-cons, getD-set-same, getD-set-other, ext-getD}
-use Rattle.star_lex.specs.Tokens.{Token, tokenRow}
-use Rattle.star_lex.specs.Split.{tokensOf, placed}
+use borrow.Author.Tests.{ne-eqb}
+use lib.ListN.{length, getD, take, drop, drop-of-length-le}
+use lib.Seq.{drop-cons}
+use Rattle.star_lex.specs.Tokens.{Token}
 use Rattle.star_unique.specs.Repeat.{same}
 use Rattle.star_unique.specs.Holds.{Holds, tokenAt}
-use Rattle.star_unique.specs.Chain.{tableOf, sortOf, sortAt, scopeAt, mix, bucketOf, bucketAt, latest, markAt, kindOf, earlier}
-use Rattle.star_unique.specs.Marked.{Spans, Marked, Heads}
+use Rattle.star_unique.specs.Chain.{tableOf, sortOf, sortAt, scopeAt, mix, bucketOf, bucketAt, latest, markAt, earlier}
+use Rattle.star_unique.specs.Marked.{Spans, Marked}
 use Rattle.star_unique.proofs.Held.{Row, held-row}
-use Rattle.star_unique.proofs.Chain.{latest-within, latest-again, latest-in, bucket-below, bucket-named, bucket-none, bucket-sort, earlier-floor, earlier-other, earlier-here, earlier-last}
+use Rattle.star_unique.proofs.Chain.{latest-within, latest-again, latest-in, bucket-below, bucket-sort, earlier-floor, earlier-other, earlier-here, earlier-last}
 
 module _ (h : ℕ) (x : List ℕ) (i : ℕ) where
   pub mix-next : i < length x → mix h (drop i x) ≡ mix ((h * 2685 + getD x i 0) % 4096) (drop (i + 1) x)

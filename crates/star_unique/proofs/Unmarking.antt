@@ -1,11 +1,11 @@
 -- Putting the kinds back: a marked word has its kind, and a table without marks is table 1.
 use mathlib.Core.Path.{_≡_, refl, sym, _∙_, ap, subst}
 use mathlib.Core.Bool.{Bool, true, false, cond}
-use mathlib.Core.List.{List, [], map}
+use mathlib.Core.List.{List, map}
 use Prim.Native.Nat.{ℕ, zero, suc, _+_, _*_, _%_, _≤_, _<_}
 use native.Mathlib.Omega.{arith}
 use lib.Dec.{eqb, ltb}
-use borrow.Author.Tests.{ltb-true, ltb-false, eqb-true, eqb-false, eq-eqb, ne-eqb}
+use borrow.Author.Tests.{ltb-true, ltb-false, eqb-true, ne-eqb}
 use lib.ListN.{length, getD, set, length-set}
 use lib.Seq.{ext-getD}
 use Rattle.star_lex.specs.Tokens.{Token, Each}
@@ -13,8 +13,8 @@ use Rattle.star_lex.specs.Split.{Split, refused, accepted, tokensOf, placed}
 use Rattle.star_lex.specs.WellFormed.{WellFormed, block, frame, frameEnd, loop, stop, name, word, reference, single, double, text, global}
 use Rattle.star_lex.proofs.WellFormed.{split-well-formed}
 use Rattle.star_unique.specs.Holds.{Holds, fileTokens, tokenAt}
-use Rattle.star_unique.specs.Chain.{tableOf, sortOf, sortAt, scopeAt, latest, bucketAt, markAt, kindOf}
-use Rattle.star_unique.specs.Marked.{Spans, Marked}
+use Rattle.star_unique.specs.Chain.{tableOf, sortOf, sortAt, scopeAt, markAt, kindOf}
+use Rattle.star_unique.specs.Marked.{Marked}
 use Rattle.star_unique.proofs.Held.{each-at, held-row, count-tokens}
 use Rattle.star_unique.proofs.Marks.{mark-sort}
 use Rattle.star_unique.proofs.Marking.{word-here, word-other, spans-set}

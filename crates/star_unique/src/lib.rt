@@ -7,7 +7,7 @@ ghost use lib.Dec.{eqb};
 ghost use lib.ListN.{length, getD};
 ghost use Rattle.star_unique.specs.Repeat.{nothing, firstRepeat, same as Repeat·same};
 ghost use Rattle.star_unique.specs.Holds.{Holds, fileTokens, tokenAt};
-ghost use Rattle.star_unique.specs.Chain.{sortOf, floorOf, passed, scopeAt, sortAt, mix, bucketOf, bucketAt, latest, earlier, kindOf, tableOf};
+ghost use Rattle.star_unique.specs.Chain.{sortOf, floorOf, passed, scopeAt, bucketOf, bucketAt, latest, earlier, kindOf, tableOf};
 ghost use Rattle.star_unique.specs.Marked.{Spans, Marked, Heads, Visited};
 
 // Whether two rows of bytes are equal. Names of one family differ at their ends, so the last bytes are compared first.

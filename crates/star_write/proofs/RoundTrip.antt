@@ -18,7 +18,7 @@ use Rattle.star_read.specs.Read.{Sizes, tokensOnly, readOf}
 use Rattle.star_read.specs.Read as Read
 use Rattle.star_read.specs.Demands.{Room, Fair}
 use Rattle.star_read.proofs.Demand3.{accepted-exactly, one-reading, rows-of-reading}
-use Rattle.star_write.specs.Write.{written, fitting, after, writeOf}
+use Rattle.star_write.specs.Write.{fitting, after, writeOf}
 use Rattle.star_write.specs.Demands.{ReadsBack, RoundTrip, WritesAgain}
 use Rattle.star_write.proofs.Outcomes.{Wrote, wrote}
 

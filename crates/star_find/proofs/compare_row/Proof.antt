@@ -1,7 +1,5 @@
 -- `compare_row` meets its contract: only a row that is looked at is compared.
 use mathlib.Core.Path.{sym, _∙_}
-use Prim.Native.Nat.{_*_, _≤_}
-use native.Mathlib.Omega.{arith}
 use borrow.Author.Needs.{needs}
 use Rattle.star_find.proofs.Looking.{word-at}
 use Rattle.star_find.proofs.compare_row.Statement.{statement}

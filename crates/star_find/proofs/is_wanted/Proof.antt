@@ -1,5 +1,4 @@
 -- `is_wanted` meets its contract, by the tests on the row's words.
-use mathlib.Core.Path.{sym, _∙_}
 use borrow.Author.Needs.{needs}
 use borrow.Author.Tests.{eq-eqb, ne-eqb}
 use Rattle.star_find.proofs.Looking.{wanted-at}

@@ -1,13 +1,13 @@
 -- `read_tokens` meets its contract: the checks stand in the order of the definition, and each refusal clears the table.
 use mathlib.Core.Path.{_≡_, sym, _∙_, ap}
-use Prim.Native.Nat.{ℕ, _*_, _/_, _≤_, _<_}
+use Prim.Native.Nat.{_*_}
 use native.Mathlib.Omega.{arith}
 use borrow.Author.Needs.{needs}
 use lib.ListN.{length, replicate}
 use Rattle.star_rows.specs.Rows.{clearedFrom}
 use Rattle.star_rows.proofs.Stored.{stored-holding}
 use Rattle.star_lex.specs.Tokens.{tokenRow}
-use Rattle.star_lex.specs.Split.{refused, accepted}
+use Rattle.star_lex.specs.Split.{refused}
 use Rattle.star_lex.specs.Found.{fitting, answerOf, tableOf}
 use Rattle.star_lex.proofs.Splitting.{row-wide}
 use Rattle.star_lex.proofs.Answers.{tokens-too-long, tokens-refused-byte, tokens-split, answer-refused, answer-accepted, fitting-full, fitting-room}

@@ -1,12 +1,11 @@
 -- `text_field` meets its contract: the field ends within the file exactly where it closes.
-use mathlib.Core.Path.{_≡_, sym, _∙_, ap}
+use mathlib.Core.Path.{sym, _∙_, ap}
 use mathlib.Core.Bool.{true, false}
 use Prim.Native.Nat.{_+_, _≤_}
 use native.Mathlib.Omega.{arith}
 use borrow.Author.Needs.{needs}
 use lib.ListN.{length, drop}
-use Rattle.star_lex.specs.Split.{whiteNext, field}
-use Rattle.star_lex.specs.Found.{endOf}
+use Rattle.star_lex.specs.Split.{whiteNext}
 use Rattle.star_lex.proofs.Lexing.{field-open, field-within, field-found}
 use Rattle.star_lex.proofs.text_field.Statement.{statement}
 use Rattle.star_lex.proofs.text_field.Tie as tie

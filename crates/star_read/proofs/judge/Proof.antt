@@ -1,5 +1,5 @@
 -- `judge` meets its contract: a name or code that is taken counts before the token that is out of place, and the room comes last.
-use mathlib.Core.Path.{_≡_, sym, _∙_, ap, subst}
+use mathlib.Core.Path.{sym, _∙_, ap, subst}
 use Prim.Native.Nat.{ℕ}
 use borrow.Author.Needs.{needs}
 use lib.ListN.{length}

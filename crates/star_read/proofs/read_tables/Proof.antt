@@ -10,7 +10,7 @@ use Rattle.star_grammar.specs.Parsed.{FourTables, Answers, tables as four}
 use Rattle.star_unique.specs.Holds.{fileTokens}
 use Rattle.star_unique.proofs.Held.{count-small}
 use Rattle.star_read.specs.Read.{accepted, fitting, grammarOf}
-use Rattle.star_read.specs.Answer.{answerOf, tablesOf}
+use Rattle.star_read.specs.Answer.{answerOf}
 use Rattle.star_read.proofs.Settling.{SameSizes, sizesOf, held-run, answer-ran, outcome-refused, outcome-settled, rows-accepted, cleared-held, leaves-refused, accepted-answer, accepted-leaves}
 use Rattle.star_read.proofs.read_tables.Statement.{statement}
 use Rattle.star_read.proofs.read_tables.Tie as tie

@@ -1,8 +1,7 @@
 -- `first_refused` meets its contract. The invariant: the bytes passed are allowed, so what is allowed from the start is what was passed
 -- and what is allowed from here.
-use mathlib.Core.Path.{_≡_, sym, _∙_, ap}
+use mathlib.Core.Path.{_≡_, sym, _∙_}
 use Prim.Native.Nat.{_≤_, _+_, _-_}
-use native.Mathlib.Numerals.{add-one}
 use native.Mathlib.Omega.{arith}
 use borrow.Author.Needs.{needs}
 use borrow.Author.Tests.{not-true, not-false}

@@ -1,7 +1,7 @@
 -- `four_allowed` meets its contract: it answers true after four tests alone.
 use mathlib.Core.Path.{_≡_, sym, _∙_}
 use mathlib.Core.Bool.{true}
-use Prim.Native.Nat.{ℕ, _+_}
+use Prim.Native.Nat.{_+_}
 use native.Mathlib.Nat.{add-zero}
 use borrow.Author.Tests.{not-false}
 use lib.ListN.{getD}

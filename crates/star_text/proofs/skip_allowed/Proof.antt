@@ -6,7 +6,6 @@ use borrow.Author.Tests.{not-false}
 use lib.ListN.{length, drop}
 use Rattle.star_text.specs.Bytes.{run, isAllowed}
 use Rattle.star_text.proofs.Run.{run-goes-four}
-use borrow.Author.Needs.{needs}
 use Rattle.star_text.proofs.skip_allowed.Statement.{statement}
 use Rattle.star_text.proofs.skip_allowed.Tie as tie
 

@@ -7,7 +7,6 @@ use lib.Dec.{ltb}
 use lib.ListN.{length, drop}
 use Rattle.star_text.specs.Bytes.{run, classOf}
 use Rattle.star_text.proofs.Run.{run-goes-four}
-use borrow.Author.Needs.{needs}
 use Rattle.star_text.proofs.skip_below.Statement.{statement}
 use Rattle.star_text.proofs.skip_below.Tie as tie
 

@@ -1,9 +1,8 @@
 -- `is_equal` meets its contract, by the test on the sort and the comparison of the bytes.
-use mathlib.Core.Path.{sym, _∙_, ap}
+use mathlib.Core.Path.{_∙_}
 use borrow.Author.Tests.{eq-eqb, ne-eqb}
 use native.Mathlib.Omega.{arith}
 use borrow.Author.Needs.{needs}
-use Rattle.star_unique.specs.Repeat.{same}
 use Rattle.star_unique.proofs.Marks.{Span, spans-at}
 use Rattle.star_unique.proofs.is_equal.Statement.{statement}
 use Rattle.star_unique.proofs.is_equal.Tie as tie

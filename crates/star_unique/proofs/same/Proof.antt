@@ -1,9 +1,8 @@
 -- `same` meets its contract: the bytes from the present place on are equal.
-use mathlib.Core.Path.{_≡_, refl, sym, _∙_, ap}
+use mathlib.Core.Path.{_≡_, sym, _∙_, ap}
 use Prim.Native.Nat.{_-_, _≤_}
 use native.Mathlib.Omega.{arith}
 use lib.ListN.{length, getD, drop, drop-of-length-le}
-use Rattle.star_unique.specs.Repeat.{same}
 use Rattle.star_unique.proofs.Distinct.{same-equal}
 use Rattle.star_unique.proofs.SameFrom.{same-unequal, equal-before}
 use Rattle.star_unique.proofs.same.Statement.{statement}

@@ -1,7 +1,6 @@
 -- `span` meets its contract: the spans are those of table 1.
 use Prim.Native.Nat.{_+_, _*_}
 use native.Mathlib.Omega.{arith}
-use Rattle.star_unique.proofs.Held.{Row, held-row}
 use Rattle.star_unique.proofs.Marks.{Span, spans-at}
 use Rattle.star_unique.proofs.span.Statement.{statement}
 use Rattle.star_unique.proofs.span.Tie as tie

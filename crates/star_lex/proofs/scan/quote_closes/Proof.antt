@@ -1,5 +1,4 @@
 -- `quote_closes` meets its contract, by the test on the byte.
-use mathlib.Core.Path.{sym}
 use borrow.Author.Needs.{needs}
 use borrow.Author.Tests.{eq-eqb, ne-eqb}
 use Rattle.star_lex.proofs.scan.quote_closes.Statement.{statement}

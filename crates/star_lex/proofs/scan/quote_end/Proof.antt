@@ -1,6 +1,6 @@
 -- `quote_end` meets its contract: where no string closes at a byte and no line ends, it closes where it does from the next byte on.
 use mathlib.Core.Path.{_≡_, refl, sym, _∙_}
-use Prim.Native.Nat.{_+_, _-_}
+use Prim.Native.Nat.{_-_}
 use native.Mathlib.Omega.{arith}
 use borrow.Author.Needs.{needs}
 use lib.ListN.{length, drop}

@@ -1,6 +1,6 @@
 -- `begins` meets its contract: where the bytes passed agree, what follows the rest follows the whole.
 use mathlib.Core.Path.{_≡_, refl, sym, _∙_, ap}
-use Prim.Native.Nat.{_≤_, _+_, _-_}
+use Prim.Native.Nat.{_≤_, _-_}
 use native.Mathlib.Omega.{arith}
 use lib.ListN.{length, drop}
 use Rattle.star_lex.specs.Split.{after}

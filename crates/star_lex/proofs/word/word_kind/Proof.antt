@@ -2,15 +2,15 @@
 use mathlib.Core.Path.{_≡_, refl, sym, _∙_, ap}
 use mathlib.Core.Logic.{⊎-elim, inl, inr}
 use mathlib.Core.List.{List, [], _∷_}
-use Prim.Native.Nat.{ℕ, suc, _≤_, _<_}
+use Prim.Native.Nat.{ℕ, _<_}
 use native.Mathlib.Nat.{le-of-eq}
 use native.Mathlib.Omega.{arith}
 use borrow.Author.Needs.{needs}
 use lib.ListN.{length, drop, length-drop, drop-of-length-le}
 use Rattle.star_lex.specs.Tokens.{dataWord, saveWord, loopWord, stopWord, globalWord}
-use Rattle.star_lex.specs.Split.{Lexeme, token, after, either, nameWord, referenceWord, wordLexeme}
+use Rattle.star_lex.specs.Split.{token, after, either, nameWord, referenceWord, wordLexeme}
 use Rattle.star_lex.specs.Found.{kindOf}
-use Rattle.star_lex.proofs.Words.{NoKeyword, no-keyword, after-first, after-byte, word-name, word-reference, word-ordinary, name-some, reference-some}
+use Rattle.star_lex.proofs.Words.{no-keyword, after-first, after-byte, word-name, word-reference, word-ordinary, name-some, reference-some}
 use Rattle.star_lex.proofs.word.word_kind.Statement.{statement}
 use Rattle.star_lex.proofs.word.word_kind.Tie as tie
 
