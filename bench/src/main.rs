@@ -1,0 +1,130 @@
+//! Times reading and writing beside a plain copy of the same bytes.
+//!
+//! `tackturnel-bench [case ...]` prints a table, each figure the best of
+//! several runs in MB/s, a megabyte being 1,000,000 bytes.
+//! `tackturnel-bench --list` prints the cases.
+//! `tackturnel-bench --once case read|write` makes everything ready and makes
+//! one call, for counting its instructions; it prints the file's bytes.
+
+#![forbid(unsafe_code)]
+
+mod cases;
+
+use std::hint::black_box;
+use std::time::{Duration, Instant};
+use std::{env, process};
+
+use cases::{Case, CASES};
+use tackturnel_host::{reference, star, TablesMut};
+
+/// A file and what is lent to read and write it, no larger than it needs.
+struct Ready {
+    file: Vec<u8>,
+    tables: [Vec<u32>; 5],
+    out: Vec<u8>,
+}
+
+impl Ready {
+    /// Room for the file, found without a call of the library.
+    fn new(file: Vec<u8>) -> Self {
+        let tokens = reference::tokens(&file).expect("the file splits into tokens");
+        let tables = reference::words_needed(&file).map(|words| vec![1; words]);
+        let out = vec![1; reference::plain_form(&file, &tokens).len()];
+        Ready { file, tables, out }
+    }
+
+    fn tokens(&self) -> usize {
+        self.tables[0].len() / 3
+    }
+
+    fn read(&mut self) {
+        let reading = star::read(black_box(&self.file), TablesMut::of(&mut self.tables));
+        assert_eq!(reading.refusal, 0, "refused at {}", reading.place);
+        black_box(&self.tables);
+    }
+
+    fn write(&mut self) {
+        let tables = TablesMut::of(&mut self.tables);
+        let written = star::write(black_box(&self.file), tables, &mut self.out);
+        assert_eq!(written.refusal, 0, "refused at {}", written.place);
+        black_box(&self.out);
+    }
+
+    fn copy(&mut self, to: &mut [u8]) {
+        to.copy_from_slice(black_box(&self.file));
+        black_box(to);
+    }
+}
+
+/// The best time of a call, which is made for half a second and up to 200 times.
+fn best(mut call: impl FnMut()) -> Duration {
+    let until = Instant::now() + Duration::from_millis(500);
+    let mut best = Duration::MAX;
+    for run in 0..200 {
+        if run > 0 && Instant::now() > until {
+            break;
+        }
+        let start = Instant::now();
+        call();
+        best = best.min(start.elapsed());
+    }
+    best
+}
+
+fn time(case: Case) {
+    let (name, make) = case;
+    let mut ready = Ready::new(make());
+    let (bytes, tokens) = (ready.file.len(), ready.tokens());
+    let mut copy = vec![1; bytes];
+    let copied = best(|| ready.copy(&mut copy));
+    let read = best(|| ready.read());
+    let written = best(|| ready.write());
+    let speed = |time: Duration| bytes as f64 / 1e6 / time.as_secs_f64();
+    println!(
+        "{name:<12} {bytes:>9} {tokens:>8} {:>10.2} {:>10.2} {:>10.0} {:>12.0}",
+        speed(read),
+        speed(written),
+        speed(copied),
+        read.as_secs_f64() / copied.as_secs_f64()
+    );
+}
+
+fn once(case: Case, call: &str) {
+    let mut ready = Ready::new(case.1());
+    match call {
+        "read" => ready.read(),
+        "write" => ready.write(),
+        _ => fail(&format!("no such call: {call}")),
+    }
+    println!("{}", ready.file.len());
+}
+
+fn fail(message: &str) -> ! {
+    eprintln!("{message}");
+    process::exit(2)
+}
+
+fn named(name: &str) -> Case {
+    let case = CASES.into_iter().find(|case| case.0 == name);
+    case.unwrap_or_else(|| fail(&format!("no such case: {name}")))
+}
+
+fn main() {
+    let arguments: Vec<String> = env::args().skip(1).collect();
+    let arguments: Vec<&str> = arguments.iter().map(String::as_str).collect();
+    match arguments[..] {
+        ["--list"] => CASES.iter().for_each(|case| println!("{}", case.0)),
+        ["--once", name, call] => once(named(name), call),
+        _ => {
+            let chosen: Vec<Case> = match arguments.is_empty() {
+                true => CASES.to_vec(),
+                false => arguments.into_iter().map(named).collect(),
+            };
+            println!(
+                "{:<12} {:>9} {:>8} {:>10} {:>10} {:>10} {:>12}",
+                "case", "bytes", "tokens", "read MB/s", "write MB/s", "copy MB/s", "read / copy"
+            );
+            chosen.into_iter().for_each(time);
+        }
+    }
+}

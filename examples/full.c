@@ -1,0 +1,78 @@
+/*
+ * Reads the full case of paper 01 through star.h and prints what came of it:
+ * the counts, the five tables, each value of each name, and the plain form.
+ */
+#include <stdio.h>
+#include <string.h>
+
+#include "../include/star.h"
+
+static const char file[] = "data_a\nloop_\n_x\nloop_\n_y\n1 2 3 stop_ 4 stop_\n";
+
+/* The tables, with room to spare and filled by the reading. */
+static uint32_t tokens[64], sets[64], names[64], packets[64], values[64];
+
+#define LENGTH(array) (sizeof(array) / sizeof((array)[0]))
+#define FILE_RANGE (const uint8_t *)file, sizeof(file) - 1
+#define TABLES                                                                \
+    tokens, LENGTH(tokens), sets, LENGTH(sets), names, LENGTH(names),         \
+        packets, LENGTH(packets), values, LENGTH(values)
+
+static void print_table(const char *name, const uint32_t *words, uint32_t rows, uint32_t width)
+{
+    printf("%s:", name);
+    for (uint32_t row = 0; row < rows; row++) {
+        printf(" (");
+        for (uint32_t word = 0; word < width; word++)
+            printf(word == 0 ? "%u" : ",%u", (unsigned)words[row * width + word]);
+        printf(")");
+    }
+    printf("\n");
+}
+
+/* Finds a name of the block and prints its values, one after the other. */
+static void print_values(star_counts counts, uint32_t block, const char *name)
+{
+    star_found found = star_find_name(FILE_RANGE, TABLES, counts, block,
+                                      (const uint8_t *)name, strlen(name));
+    printf("%s is name row %u:", name, (unsigned)found.row);
+    for (uint32_t k = 1;; k++) {
+        star_value value = star_value_at(FILE_RANGE, TABLES, counts, found.row, k);
+        if (value.refusal != 0) {
+            printf(" then refusal %u\n", (unsigned)value.refusal);
+            return;
+        }
+        star_part part = star_value_part(FILE_RANGE, TABLES, counts, found.row, k);
+        printf(" %.*s (kind %u, packet %u)", (int)(part.end - part.start), file + part.start,
+               (unsigned)value.kind, (unsigned)value.packet);
+    }
+}
+
+int main(void)
+{
+    star_reading reading = star_read(FILE_RANGE, TABLES);
+    printf("refusal %u, place %u\n", (unsigned)reading.refusal, (unsigned)reading.place);
+    printf("counts: %u %u %u %u %u\n", (unsigned)reading.tokens, (unsigned)reading.sets,
+           (unsigned)reading.names, (unsigned)reading.packets, (unsigned)reading.values);
+    print_table("tokens", tokens, reading.tokens, 3);
+    print_table("sets", sets, reading.sets, 3);
+    print_table("names", names, reading.names, 4);
+    print_table("packets", packets, reading.packets, 3);
+    print_table("values", values, reading.values, 3);
+
+    star_counts counts = {reading.tokens, reading.sets, reading.names, reading.packets,
+                          reading.values};
+    star_found block = star_find_block(FILE_RANGE, TABLES, counts, (const uint8_t *)"a", 1);
+    printf("block a is set %u\n", (unsigned)block.row);
+    star_found frame = star_find_frame(FILE_RANGE, TABLES, counts, block.row,
+                                       (const uint8_t *)"f", 1);
+    printf("frame f: refusal %u, row %u\n", (unsigned)frame.refusal, (unsigned)frame.row);
+    print_values(counts, block.row, "_x");
+    print_values(counts, block.row, "_y");
+
+    uint8_t plain[128];
+    star_written written = star_write(FILE_RANGE, TABLES, plain, sizeof plain);
+    printf("plain form, %u bytes:\n", (unsigned)written.length);
+    fwrite(plain, 1, written.length, stdout);
+    return 0;
+}

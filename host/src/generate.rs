@@ -1,0 +1,724 @@
+//! Files and tables to compare readers on, all from seeds.
+
+use std::collections::HashSet;
+
+use crate::{Counts, MOST_BYTES, WIDTHS};
+
+// -------------------------------------------------------------- numbers
+
+/// A small generator of numbers (splitmix64).
+#[derive(Clone, Debug)]
+pub struct Rng(u64);
+
+impl Rng {
+    /// The generator of a seed.
+    pub fn new(seed: u64) -> Self {
+        Rng(seed.wrapping_mul(0xd134_2543_de82_ef95) ^ 0x5354_4152)
+    }
+
+    /// The next number.
+    pub fn number(&mut self) -> u64 {
+        self.0 = self.0.wrapping_add(0x9e37_79b9_7f4a_7c15);
+        let mut mixed = self.0;
+        mixed = (mixed ^ (mixed >> 30)).wrapping_mul(0xbf58_476d_1ce4_e5b9);
+        mixed = (mixed ^ (mixed >> 27)).wrapping_mul(0x94d0_49bb_1331_11eb);
+        mixed ^ (mixed >> 31)
+    }
+
+    /// A number below `limit`, which is not 0.
+    pub fn below(&mut self, limit: usize) -> usize {
+        (self.number() % limit as u64) as usize
+    }
+
+    /// A number from `least` up to `most`.
+    pub fn between(&mut self, least: usize, most: usize) -> usize {
+        least + self.below(most - least + 1)
+    }
+
+    /// True once in `times`.
+    pub fn once_in(&mut self, times: usize) -> bool {
+        self.below(times) == 0
+    }
+
+    /// One of a list.
+    pub fn pick<T: Copy>(&mut self, list: &[T]) -> T {
+        list[self.below(list.len())]
+    }
+}
+
+/// One of the words of a list.
+fn one_of<'a>(rng: &mut Rng, list: &'a str) -> &'a str {
+    let words: Vec<&str> = list.split_whitespace().collect();
+    rng.pick(&words)
+}
+
+// --------------------------------------------------------------- tokens
+
+/// The bytes of one token. A word that begins with `;` is no text field.
+#[derive(Clone, Debug)]
+struct Piece {
+    bytes: Vec<u8>,
+    text_field: bool,
+}
+
+impl Piece {
+    fn word(bytes: impl Into<Vec<u8>>) -> Self {
+        Piece { bytes: bytes.into(), text_field: false }
+    }
+
+    fn text(content: &[u8], terminate: u8) -> Self {
+        let bytes = [b";", content, &[terminate, b';']].concat();
+        Piece { bytes, text_field: true }
+    }
+}
+
+const BLANKS: [u8; 3] = [9, 11, 32];
+const TERMINATES: [u8; 3] = [10, 12, 13];
+/// Bytes at which readers slip.
+const SHARP: &[u8] = b";;;'\"'\"#_$$ \n\t\r\x0b\x0c01az";
+
+fn white(rng: &mut Rng) -> u8 {
+    let kinds = [32, 10, 32, 10, 9, 11, 12, 13];
+    rng.pick(&kinds)
+}
+
+/// A byte that a word may hold.
+fn letter(rng: &mut Rng) -> u8 {
+    match rng.below(4) {
+        0 => rng.between(33, 126) as u8,
+        1 => rng.pick(b";'\"#_$"),
+        _ => rng.pick(b"abcxyz0123456789.-"),
+    }
+}
+
+fn letters(rng: &mut Rng, most: usize) -> Vec<u8> {
+    (0..rng.below(most + 1)).map(|_| letter(rng)).collect()
+}
+
+/// What follows the lead of a name or code: often one letter, at times as
+/// long as it may be.
+fn code(rng: &mut Rng, most: usize) -> Vec<u8> {
+    match rng.below(8) {
+        0..=4 => vec![rng.pick(b"abcdexyzABXY")],
+        5 => (0..most).map(|_| letter(rng)).collect(),
+        _ => (0..rng.between(1, most)).map(|_| letter(rng)).collect(),
+    }
+}
+
+/// A word of kind 7, which may begin with `;`.
+fn plain_word(rng: &mut Rng) -> Vec<u8> {
+    const WORDS: &str = "1 -0.5 8.53(1) ? . C#N $ a'b DATA_x Loop_ data stop sa've_ x_ ; ;b ;; ;'";
+    if rng.once_in(2) {
+        return one_of(rng, WORDS).into();
+    }
+    let mut word = vec![rng.pick(b"abcdeglsABC019.+-?*;()[]!")];
+    word.extend(letters(rng, 9));
+    let keyword = ["data_", "loop_", "global_", "save_", "stop_"];
+    if keyword.iter().any(|keyword| word.starts_with(keyword.as_bytes())) {
+        word[4] = b'-';
+    }
+    word
+}
+
+/// What stands between two equal quotes: no terminate, and the quote before no blank.
+fn quotable(rng: &mut Rng, quote: u8) -> Vec<u8> {
+    let mut content: Vec<u8> = Vec::new();
+    for _ in 0..rng.below(9) {
+        let byte = match rng.below(4) {
+            0 => quote,
+            1 => rng.pick(&BLANKS),
+            2 => rng.pick(b"'\";#_$"),
+            _ => letter(rng),
+        };
+        if !(BLANKS.contains(&byte) && content.last() == Some(&quote)) {
+            content.push(byte);
+        }
+    }
+    content
+}
+
+/// What a text field may hold: anything but a terminate before a `;`.
+fn text(rng: &mut Rng) -> Vec<u8> {
+    let mut content: Vec<u8> = Vec::new();
+    let most = rng.pick(&[6, 6, 60]);
+    for _ in 0..rng.below(most) {
+        let byte = if rng.once_in(2) { rng.pick(SHARP) } else { letter(rng) };
+        let after_line = content.last().is_some_and(|last| TERMINATES.contains(last));
+        if !(byte == b';' && after_line) {
+            content.push(byte);
+        }
+    }
+    content
+}
+
+fn value(rng: &mut Rng) -> Piece {
+    match rng.below(16) {
+        0..=7 => Piece::word(plain_word(rng)),
+        8 | 9 => Piece::word([b"$".to_vec(), vec![letter(rng)], letters(rng, 50)].concat()),
+        10 | 11 => Piece::word([b"'".to_vec(), quotable(rng, b'\''), b"'".to_vec()].concat()),
+        12 | 13 => Piece::word([b"\"".to_vec(), quotable(rng, b'"'), b"\"".to_vec()].concat()),
+        _ => Piece::text(&text(rng), rng.pick(&TERMINATES)),
+    }
+}
+
+// ---------------------------------------------------------------- files
+
+type Taken = HashSet<Vec<u8>>;
+
+struct Builder<'r> {
+    rng: &'r mut Rng,
+    pieces: Vec<Piece>,
+    /// About how many tokens there may be.
+    size: usize,
+}
+
+impl Builder<'_> {
+    fn room(&self) -> bool {
+        self.pieces.len() < self.size
+    }
+
+    fn word(&mut self, word: impl Into<Vec<u8>>) {
+        self.pieces.push(Piece::word(word));
+    }
+
+    fn value(&mut self) {
+        let value = value(self.rng);
+        self.pieces.push(value);
+    }
+
+    /// A lead and a code that is not taken yet.
+    fn unique(&mut self, lead: &str, most: usize, taken: &mut Taken) {
+        loop {
+            let code = code(self.rng, most);
+            if taken.insert(code.clone()) {
+                self.word([lead.as_bytes(), code.as_slice()].concat());
+                return;
+            }
+        }
+    }
+
+    fn file(&mut self) {
+        let mut codes = Taken::new();
+        for _ in 0..self.rng.pick(&[0, 1, 1, 1, 2, 3, 5]) {
+            self.unique("data_", 32, &mut codes);
+            self.set(true);
+        }
+    }
+
+    /// Items, loops and, in a block, save frames.
+    fn set(&mut self, block: bool) {
+        let mut names = Taken::new();
+        let mut codes = Taken::new();
+        for _ in 0..self.rng.below(6) {
+            if !self.room() {
+                return;
+            }
+            match self.rng.below(6) {
+                0 | 1 => {
+                    self.unique("_", 31, &mut names);
+                    self.value();
+                }
+                2 if block => {
+                    self.unique("save_", 32, &mut codes);
+                    self.set(false);
+                    self.word("save_");
+                }
+                _ => self.data_loop(&mut names),
+            }
+        }
+    }
+
+    fn data_loop(&mut self, names: &mut Taken) {
+        let depth = self.rng.pick(&[1, 1, 1, 2, 2, 2, 3, 3, 4, 5, 6, 7, 8]);
+        let levels: Vec<usize> = (0..depth).map(|_| self.rng.pick(&[1, 1, 2, 3])).collect();
+        for &count in &levels {
+            self.word("loop_");
+            for _ in 0..count {
+                self.unique("_", 31, names);
+            }
+        }
+        let stops = if self.rng.once_in(2) { 0 } else { self.rng.below(depth) };
+        for _ in 0..stops {
+            self.word("stop_");
+        }
+        for _ in 0..self.rng.between(1, 4) {
+            self.packet(&levels);
+        }
+    }
+
+    fn packet(&mut self, levels: &[usize]) {
+        for _ in 0..levels[0] {
+            self.value();
+        }
+        let deeper = &levels[1..];
+        if deeper.is_empty() {
+            return;
+        }
+        for _ in 0..self.rng.pick(&[0, 1, 1, 2, 3]) {
+            if self.room() {
+                self.packet(deeper);
+            }
+        }
+        self.word("stop_");
+    }
+}
+
+fn pieces(rng: &mut Rng) -> Vec<Piece> {
+    let size = rng.pick(&[10, 30, 100, 300]);
+    let mut builder = Builder { rng, pieces: Vec::new(), size };
+    builder.file();
+    builder.pieces
+}
+
+/// White space of all six bytes and comments, beginning with white space.
+fn gap(rng: &mut Rng, file: &mut Vec<u8>) {
+    file.push(white(rng));
+    while rng.once_in(3) {
+        if rng.once_in(3) {
+            comment(rng, file);
+            file.push(rng.pick(&TERMINATES));
+        } else {
+            file.push(white(rng));
+        }
+    }
+}
+
+fn comment(rng: &mut Rng, file: &mut Vec<u8>) {
+    file.push(b'#');
+    for _ in 0..rng.below(8) {
+        let byte = if rng.once_in(3) { rng.pick(&BLANKS) } else { letter(rng) };
+        file.push(byte);
+    }
+}
+
+/// The tokens with white space and comments between them.
+fn laid_out(rng: &mut Rng, pieces: &[Piece]) -> Vec<u8> {
+    let mut file = Vec::new();
+    let neat = rng.once_in(4);
+    for (at, piece) in pieces.iter().enumerate() {
+        let begins_with_semicolon = piece.bytes.first() == Some(&b';');
+        if at > 0 && neat {
+            file.push(b' ');
+        } else if at > 0 || rng.once_in(3) {
+            gap(rng, &mut file);
+        }
+        if piece.text_field {
+            file.push(rng.pick(&TERMINATES));
+        } else if begins_with_semicolon {
+            file.push(rng.pick(&BLANKS));
+        }
+        file.extend_from_slice(&piece.bytes);
+    }
+    if rng.once_in(2) {
+        gap(rng, &mut file);
+        if rng.once_in(3) {
+            comment(rng, &mut file);
+        }
+    }
+    file
+}
+
+/// A file that is accepted: blocks, frames, items and loops of all levels.
+pub fn valid(rng: &mut Rng) -> Vec<u8> {
+    let pieces = pieces(rng);
+    laid_out(rng, &pieces)
+}
+
+/// A valid file with a few tokens or bytes changed.
+pub fn damaged(rng: &mut Rng) -> Vec<u8> {
+    let mut pieces = pieces(rng);
+    if rng.once_in(2) {
+        for _ in 0..rng.between(1, 2) {
+            damage_tokens(rng, &mut pieces);
+        }
+        return laid_out(rng, &pieces);
+    }
+    let mut file = laid_out(rng, &pieces);
+    for _ in 0..rng.pick(&[1, 1, 2, 5]) {
+        damage_bytes(rng, &mut file);
+    }
+    file
+}
+
+fn damage_tokens(rng: &mut Rng, pieces: &mut Vec<Piece>) {
+    let at = rng.below(pieces.len() + 1);
+    if pieces.is_empty() || rng.once_in(4) {
+        pieces.insert(at, soup_piece(rng));
+        return;
+    }
+    let (one, other) = (rng.below(pieces.len()), rng.below(pieces.len()));
+    match rng.below(5) {
+        0 => pieces.swap(one, other),
+        1 if one + 1 < pieces.len() => pieces.swap(one, one + 1),
+        2 => pieces.insert(at, pieces[one].clone()),
+        3 => pieces[one] = soup_piece(rng),
+        _ => drop(pieces.remove(one)),
+    }
+}
+
+fn damage_bytes(rng: &mut Rng, file: &mut Vec<u8>) {
+    let at = rng.below(file.len() + 1);
+    let byte = if rng.once_in(12) { rng.number() as u8 } else { rng.pick(SHARP) };
+    if at == file.len() || rng.once_in(4) {
+        file.insert(at, byte);
+        return;
+    }
+    match rng.below(6) {
+        0 => file[at] ^= 1 << rng.below(8),
+        1 | 2 => file[at] = byte,
+        3 => file.truncate(at),
+        4 => {
+            let to = (at + rng.between(1, 12)).min(file.len());
+            file.drain(at..to);
+        }
+        _ => drop(file.remove(at)),
+    }
+}
+
+/// A token from a list that has every kind, faults and repeated names.
+fn soup_piece(rng: &mut Rng) -> Piece {
+    const WORDS: &str = "data_a data_b data_c save_f save_g save_a save_ save_ save_ \
+        loop_ loop_ loop_ loop_ loop_ stop_ stop_ stop_ stop_ _x _y _z _a _b _c _d _e _f \
+        1 2 3 4 5 6 7 ? . $f $ ;b 'q' \"it's\" ''' '' C#N # DATA_b _data_ a global_";
+    const FAULTS: &str = "global_ data_ _ loop_x stop_1 global_a 'open \"a' \
+        _nnnnnnnnnnnnnnnnnnnnnnnnnnnnnnnn save_ccccccccccccccccccccccccccccccccc";
+    const OPEN: [&str; 2] = ["\n;open", "\n;a\n;b"];
+    match rng.below(60) {
+        0 if rng.once_in(5) => Piece::word(rng.pick(&OPEN)),
+        0 => Piece::word(one_of(rng, FAULTS)),
+        1 => Piece::text(&text(rng), rng.pick(&TERMINATES)),
+        2 => value(rng),
+        _ => Piece::word(one_of(rng, WORDS)),
+    }
+}
+
+/// A row of tokens of any kinds.
+pub fn soup(rng: &mut Rng) -> Vec<u8> {
+    let mut pieces = Vec::new();
+    if !rng.once_in(8) {
+        pieces.push(Piece::word("data_a"));
+    }
+    if rng.once_in(2) {
+        pieces.push(Piece::word("loop_"));
+    } else if rng.once_in(4) {
+        for level in 1..rng.between(6, 10) {
+            pieces.extend([Piece::word("loop_"), Piece::word(format!("_{level}"))]);
+        }
+    }
+    for _ in 0..rng.pick(&[2, 5, 10, 20]) {
+        pieces.push(soup_piece(rng));
+    }
+    laid_out(rng, &pieces)
+}
+
+/// Bytes without order, most of them allowed.
+pub fn bytes(rng: &mut Rng) -> Vec<u8> {
+    let refused = rng.once_in(4);
+    let mut file = if rng.once_in(2) { b"data_a _x\n".to_vec() } else { Vec::new() };
+    for _ in 0..rng.pick(&[1, 4, 12, 40, 200]) {
+        let byte = match rng.below(8) {
+            0 if refused => rng.number() as u8,
+            0 | 1 => rng.between(32, 126) as u8,
+            2 => rng.between(9, 13) as u8,
+            3 => rng.pick(b"data_loopsvetg"),
+            _ => rng.pick(SHARP),
+        };
+        file.push(byte);
+    }
+    file
+}
+
+// ---------------------------------------------------------- large files
+
+/// Files of the largest size, of one byte more, and with plain forms there.
+pub fn largest() -> Vec<(&'static str, Vec<u8>)> {
+    let padded = |head: &[u8], fill: &[u8], tail: &[u8], length: usize| {
+        let mut file = head.to_vec();
+        while file.len() + fill.len() + tail.len() <= length {
+            file.extend_from_slice(fill);
+        }
+        file.resize(length - tail.len(), b' ');
+        file.extend_from_slice(tail);
+        file
+    };
+    let most = MOST_BYTES;
+    vec![
+        ("blanks", padded(b"", b" ", b"", most)),
+        ("blanks, one more", padded(b"", b" ", b"", most + 1)),
+        ("terminates", padded(b"", b"\n", b"", most)),
+        ("one word", padded(b"data_a _x ", b"v", b"", most)),
+        ("one word, one more", padded(b"data_a _x ", b"v", b"", most + 1)),
+        ("one word, its plain form just fits", padded(b"data_a _x ", b"v", b"", most - 1)),
+        ("one word and a line end", padded(b"data_a _x ", b"v", b"\n", most)),
+        ("one text field", padded(b"data_a _x\n;", b"t\n", b"\n;", most)),
+        ("one text field, one more", padded(b"data_a _x\n;", b"t\n", b"\n;", most + 1)),
+        ("a text field not closed", padded(b"data_a _x\n;", b"t\n ;", b"", most)),
+        ("a text field closed too near", padded(b"data_a _x\n;", b"t", b"\n;x", most)),
+        ("a quoted string", padded(b"data_a _x '", b"'q", b"'", most)),
+        ("a quote not closed", padded(b"data_a _x '", b"q", b"", most)),
+        ("a comment", padded(b"data_a #", b"c", b"", most)),
+        ("a refused byte at the end", padded(b"data_a _x ", b"v", b"\x7f", most)),
+        ("a refused byte, one more", padded(b"data_a _x ", b"v", b"\x00", most + 1)),
+        ("values of one byte", padded(b"data_a loop_ _x ", b"1 ", b"", most)),
+        ("packets of six", padded(b"data_a loop_ _a _b _c _d _e _f ", b"1 2 3 4 5 6 ", b"", most)),
+        ("words that grow in the plain form", padded(b"data_a loop_ _x ", b"; ", b"", most)),
+        ("words that just fit in the plain form", padded(b"data_a loop_ _x ", b"; ", b"", 699_056)),
+        (
+            "words one byte over in the plain form",
+            padded(b"data_a loop_ _xy ", b"; ", b"", 699_057),
+        ),
+        ("inner packets", padded(b"data_a loop_ _x loop_ _y ", b"1 2 stop_ ", b"", most)),
+        (
+            "an inner level open at the end",
+            padded(b"data_a loop_ _x loop_ _y 1 ", b"2 ", b"", most),
+        ),
+        (
+            "an inner level closed at the end",
+            padded(b"data_a loop_ _x loop_ _y 1 ", b"2 ", b"stop_", most),
+        ),
+        ("empty packets of a level", padded(b"data_a loop_ _x loop_ _y ", b"1 stop_\n", b"", most)),
+        ("a repeated code at the end", padded(b"data_a loop_ _x ", b"1 ", b" data_a", most)),
+        ("a name without value at the end", padded(b"data_a loop_ _x ", b"1 ", b" _y", most)),
+    ]
+}
+
+/// Names that differ little: as numbers, in one byte, in order, in length.
+fn kindred(family: usize, number: usize) -> Vec<u8> {
+    match family {
+        0 => format!("{number}").into_bytes(),
+        1 => format!("{number:031}").into_bytes(),
+        2 => format!("{:031}", number as u128 * 1_000_000_000_000_000_000_000_000).into_bytes(),
+        3 => format!("{number:b}").replace('1', "ab").replace('0', "ba").into_bytes(),
+        _ => [vec![b'n'; number % 26], format!("{}", number / 26).into_bytes()].concat(),
+    }
+}
+
+/// About `count` names or codes, in one set or many, with a repeat or none.
+pub fn many_names(rng: &mut Rng, count: usize) -> Vec<u8> {
+    let family = rng.below(5);
+    let layout = rng.below(5);
+    let (one, other) = (rng.below(count), rng.below(count));
+    let repeats = rng.once_in(2);
+    let mut file = b"data_ ".to_vec();
+    file[5] = b'-';
+    file.extend_from_slice(if layout == 1 { b" loop_ " } else { b" " });
+    for number in 0..count {
+        let number = if repeats && number == one { other } else { number };
+        let name = kindred(family, number);
+        match layout {
+            // single items
+            0 => file.extend([b"_".as_slice(), &name, b" 1\n"].concat()),
+            // one loop
+            1 => file.extend([b"_".as_slice(), &name, b"\n"].concat()),
+            // blocks
+            2 => file.extend([b"data_".as_slice(), &name, b" _x 1\n"].concat()),
+            // frames with the same names
+            3 => file.extend([b"save_".as_slice(), &name, b" _x 1 _y 2 save_\n"].concat()),
+            // names that come again in frames
+            _ => {
+                let frame = format!("save_{number} _{number} 1 save_ ");
+                file.extend([b"_".as_slice(), &name, b" 1 ", frame.as_bytes()].concat());
+            }
+        }
+    }
+    if layout == 1 {
+        file.extend(b"1 ".repeat(count));
+    }
+    file
+}
+
+// --------------------------------------------------------------- tables
+
+/// What a lookup is handed besides the question.
+#[derive(Clone, Debug)]
+pub struct Handed {
+    /// The file's bytes.
+    pub file: Vec<u8>,
+    /// The five tables.
+    pub tables: [Vec<u32>; 5],
+    /// The five counts.
+    pub counts: Counts,
+}
+
+/// The numbers and bytes that lookups are asked with.
+#[derive(Clone, Debug)]
+pub struct Question {
+    /// A set.
+    pub set: u32,
+    /// A name row.
+    pub name_row: u32,
+    /// Which value of the name row.
+    pub k: u32,
+    /// A code or a name.
+    pub sought: Vec<u8>,
+}
+
+/// The counts in the order of their tables.
+pub fn in_order(counts: &mut Counts) -> [&mut u32; 5] {
+    let Counts { tokens, sets, names, packets, values } = counts;
+    [tokens, sets, names, packets, values]
+}
+
+/// A number near one that matters, else any.
+fn telling(rng: &mut Rng, handed: &Handed) -> u32 {
+    let counts = handed.counts;
+    match rng.below(12) {
+        0..=4 => rng.below(6) as u32,
+        5 => counts.tokens.wrapping_add(rng.below(3) as u32).wrapping_sub(1),
+        6 => counts.sets.wrapping_add(rng.below(3) as u32).wrapping_sub(1),
+        7 => counts.names.wrapping_add(rng.below(3) as u32).wrapping_sub(1),
+        8 => (handed.file.len() as u32).wrapping_add(rng.below(3) as u32).wrapping_sub(1),
+        9 => rng.below(handed.file.len() + 2) as u32,
+        10 => rng.pick(&[u32::MAX, u32::MAX - 1, 1 << 31, (1 << 31) - 1, 1 << 30]),
+        _ => rng.number() as u32,
+    }
+}
+
+/// Changes a few words, counts and lengths.
+pub fn spoil(rng: &mut Rng, handed: &mut Handed) {
+    for _ in 0..rng.pick(&[1, 1, 2, 4, 12]) {
+        let table = rng.below(5);
+        let length = handed.tables[table].len();
+        match rng.below(16) {
+            0 => handed.tables[table].truncate(rng.below(length + 1)),
+            1 => handed.file.truncate(rng.below(handed.file.len() + 1)),
+            2 | 3 => {
+                // also numbers of rows whose words come round in 32 bits
+                let held = (length / WIDTHS[table]) as u32;
+                let number = telling(rng, handed);
+                let odd = [held, held + 1, held / 2, 0x5555_5556, 0x4000_0001, 0xaaaa_aaab, number];
+                *in_order(&mut handed.counts)[table] = rng.pick(&odd);
+            }
+            _ if length > 0 => {
+                let at = rng.below(length);
+                handed.tables[table][at] = telling(rng, handed);
+            }
+            _ => {}
+        }
+    }
+}
+
+/// A file and tables that no reading made, small enough that rows meet.
+pub fn junk(rng: &mut Rng) -> Handed {
+    let file: Vec<u8> = (0..rng.below(12)).map(|_| rng.pick(b"aab_\xff")).collect();
+    let mut handed = Handed { file, tables: Default::default(), counts: Counts::default() };
+    for (table, width) in WIDTHS.into_iter().enumerate() {
+        let rows = rng.below(7);
+        let held = if rng.once_in(8) { rng.below(rows + 2) } else { rows };
+        *in_order(&mut handed.counts)[table] = held as u32;
+        let spare = if rng.once_in(2) { rng.below(width) } else { 0 };
+        handed.tables[table] = vec![0; rows * width + spare];
+    }
+    for table in 0..5 {
+        for at in 0..handed.tables[table].len() {
+            let small = rng.below(5) as u32;
+            let word = if rng.once_in(6) { telling(rng, &handed) } else { small };
+            handed.tables[table][at] = word;
+        }
+    }
+    // let most spans lie in the file
+    let length = handed.file.len();
+    for row in handed.tables[0].chunks_exact_mut(3) {
+        if !rng.once_in(4) {
+            row[1] = rng.below(length + 1) as u32;
+            row[2] = row[1] + rng.below(3.min(length - row[1] as usize + 1)) as u32;
+        }
+    }
+    handed
+}
+
+/// A question to these tables, often one with an answer.
+pub fn question(rng: &mut Rng, handed: &Handed) -> Question {
+    let row = |rng: &mut Rng, table: usize| {
+        let held = handed.tables[table].len() / WIDTHS[table];
+        match rng.below(8) {
+            0 => telling(rng, handed),
+            _ => rng.between(1, held.max(1)) as u32,
+        }
+    };
+    let mut set = row(rng, 1);
+    let name_row = row(rng, 2);
+    let k = match rng.below(12) {
+        0 => telling(rng, handed),
+        _ => rng.pick(&[0, 1, 1, 1, 1, 2, 2, 3, 4, 7]),
+    };
+    // the code of a set with its parent, a name with its set, or any token
+    let at = |row: u32, width: usize| row.wrapping_sub(1) as usize * width;
+    let (of_set, of_name) = (at(set, 3), at(name_row, 4));
+    let token = match rng.below(3) {
+        0 => {
+            let code = handed.tables[1].get(of_set + 1).copied();
+            set = handed.tables[1].get(of_set + 2).copied().unwrap_or(set);
+            code
+        }
+        1 => {
+            set = handed.tables[2].get(of_name).copied().unwrap_or(set);
+            handed.tables[2].get(of_name + 1).copied()
+        }
+        _ => Some(row(rng, 0)),
+    };
+    let sought = token.map_or(Vec::new(), |token| content(handed, token));
+    Question { set, name_row, k, sought: nearly(rng, sought) }
+}
+
+/// The content of a token row, nothing where it points outside.
+fn content(handed: &Handed, row: u32) -> Vec<u8> {
+    let at = row.wrapping_sub(1) as usize * 3;
+    let part = match handed.tables[0].get(at + 1..at + 3) {
+        Some(&[start, end]) => handed.file.get(start as usize..end as usize),
+        _ => None,
+    };
+    part.unwrap_or(b"").to_vec()
+}
+
+/// These bytes, or once in a while some that differ a little.
+fn nearly(rng: &mut Rng, mut bytes: Vec<u8>) -> Vec<u8> {
+    match rng.below(24) {
+        0 => bytes.push(rng.pick(b"a_\0")),
+        1 => drop(bytes.pop()),
+        2 => bytes.iter_mut().take(1).for_each(|byte| *byte ^= 1),
+        3 => bytes.iter_mut().rev().take(1).for_each(|byte| *byte ^= 32),
+        4 => bytes.clear(),
+        _ => {}
+    }
+    bytes
+}
+
+#[cfg(test)]
+mod tests {
+    use super::*;
+    use crate::notation::escaped;
+    use crate::reference;
+
+    #[test]
+    fn valid_files_are_accepted_and_varied() {
+        let mut kinds = [0u32; 13];
+        let mut levels = [0u32; 9];
+        for seed in 0..3000 {
+            let file = valid(&mut Rng::new(seed));
+            let (answer, tables) = reference::read(&file, reference::words_needed(&file));
+            assert_eq!(answer.refusal, 0, "seed {seed}: {}", escaped(&file));
+            tables[0].chunks(3).for_each(|row| kinds[row[0] as usize] += 1);
+            tables[3].chunks(3).for_each(|row| levels[row[1] as usize] += 1);
+        }
+        assert!(kinds[1..=11].iter().all(|&count| count > 100), "{kinds:?}");
+        assert!(levels[1..].iter().all(|&count| count > 10), "{levels:?}");
+    }
+
+    #[test]
+    fn largest_files_are_as_named() {
+        for (name, file) in largest() {
+            let over = name.ends_with("one more");
+            let refusal = reference::read(&file, reference::words_needed(&file)).0.refusal;
+            assert_eq!(file.len() > MOST_BYTES, over, "{name}");
+            assert_eq!(refusal == 1, over, "{name}");
+            let tokens =
+                reference::tokens(&file).map(|tokens| reference::plain_form(&file, &tokens).len());
+            match name {
+                "words that just fit in the plain form" => assert_eq!(tokens, Ok(MOST_BYTES)),
+                "words one byte over in the plain form" => assert_eq!(tokens, Ok(MOST_BYTES + 1)),
+                _ => {}
+            }
+        }
+    }
+}

@@ -1,0 +1,114 @@
+//! Files in the escaped notation of vectors/base.txt, and those vectors.
+
+/// Bytes in the escaped notation: `\n \r \t \v \f \\` and `\xNN` as in C. A
+/// bar, and a blank at either end, are written `\x7c` and `\x20`.
+pub fn escaped(bytes: &[u8]) -> String {
+    let mut text = String::new();
+    for (at, &byte) in bytes.iter().enumerate() {
+        match byte {
+            b'\n' => text.push_str("\\n"),
+            b'\r' => text.push_str("\\r"),
+            b'\t' => text.push_str("\\t"),
+            11 => text.push_str("\\v"),
+            12 => text.push_str("\\f"),
+            b'\\' => text.push_str("\\\\"),
+            b' ' if at == 0 || at + 1 == bytes.len() => text.push_str("\\x20"),
+            b'|' => text.push_str("\\x7c"),
+            32..=126 => text.push(byte as char),
+            _ => text.push_str(&format!("\\x{byte:02x}")),
+        }
+    }
+    text
+}
+
+/// The bytes that stand in the escaped notation.
+pub fn unescaped(text: &str) -> Vec<u8> {
+    let mut bytes = Vec::new();
+    let mut rest = text.bytes();
+    while let Some(byte) = rest.next() {
+        if byte != b'\\' {
+            bytes.push(byte);
+            continue;
+        }
+        bytes.push(match rest.next() {
+            Some(b'n') => b'\n',
+            Some(b'r') => b'\r',
+            Some(b't') => b'\t',
+            Some(b'v') => 11,
+            Some(b'f') => 12,
+            Some(b'\\') => b'\\',
+            Some(b'x') => 16 * digit(rest.next()) + digit(rest.next()),
+            other => panic!("no such escape: {other:?} in {text}"),
+        });
+    }
+    bytes
+}
+
+fn digit(byte: Option<u8>) -> u8 {
+    let digit = byte.and_then(|byte| (byte as char).to_digit(16));
+    digit.expect("two hexadecimal digits after \\x") as u8
+}
+
+/// A file and the answer that is expected for it.
+#[derive(Clone, Debug, Default)]
+pub struct Vector {
+    /// The line of the vector in its list, from 1.
+    pub line: usize,
+    /// The file's bytes.
+    pub file: Vec<u8>,
+    /// The refusal, 0 when accepted.
+    pub refusal: u32,
+    /// The place of the refusal.
+    pub place: u32,
+    /// The row counts of the five tables.
+    pub counts: [u32; 5],
+    /// The words of the rows of the five tables.
+    pub tables: [Vec<u32>; 5],
+    /// The plain form.
+    pub plain: Vec<u8>,
+}
+
+/// The vectors of a list; its first two lines say how it is written.
+pub fn vectors(list: &str) -> Vec<Vector> {
+    let lines = list.lines().enumerate().skip(2);
+    lines.map(|(at, line)| vector(at + 1, line)).collect()
+}
+
+fn vector(line: usize, text: &str) -> Vector {
+    let fields: Vec<&str> = text.split(" | ").collect();
+    let answer = numbers(fields[1]);
+    let mut vector = Vector {
+        line,
+        file: unescaped(fields[0]),
+        refusal: answer[0],
+        place: answer[1],
+        ..Vector::default()
+    };
+    if vector.refusal == 0 {
+        assert_eq!(fields.len(), 5, "line {line}: five fields");
+        vector.counts = numbers(fields[2]).try_into().expect("five counts");
+        let tables: Vec<Vec<u32>> = fields[3].split(';').map(numbers).collect();
+        vector.tables = tables.try_into().expect("five tables");
+        vector.plain = unescaped(fields[4]);
+    } else {
+        assert_eq!(fields.len(), 2, "line {line}: two fields");
+    }
+    vector
+}
+
+fn numbers(text: &str) -> Vec<u32> {
+    let words = text.split([' ', ',']).filter(|word| !word.is_empty());
+    words.map(|word| word.parse().expect("a number")).collect()
+}
+
+#[cfg(test)]
+mod tests {
+    use super::*;
+
+    #[test]
+    fn every_byte_comes_back() {
+        let bytes: Vec<u8> = (0..=255).chain(0..=255).collect();
+        assert_eq!(unescaped(&escaped(&bytes)), bytes);
+        assert_eq!(escaped(b" a|b "), "\\x20a\\x7cb\\x20");
+    }
+}

@@ -1,0 +1,792 @@
+//! A plain reader of STAR Files, written from paper 01 alone.
+//!
+//! It shares no code with the library, takes its time and its memory as it
+//! likes, and answers for every call every field and every word that the
+//! library is to answer. Where paper 01 leaves room it follows the choices in
+//! docs/DECISIONS.md; each is marked `choice` here.
+
+use std::collections::HashSet;
+
+use crate::{Counts, Found, Part, Reading, Tables, Value, Written, MOST_BYTES, WIDTHS};
+
+/// A refusal's number and place.
+#[derive(Clone, Copy, Debug, PartialEq, Eq)]
+pub struct Refusal {
+    /// Its number, 1 to 14.
+    pub number: u32,
+    /// Its place.
+    pub place: usize,
+}
+
+/// A token: its kind, its first byte's offset and the span of its content.
+#[derive(Clone, Copy, Debug, PartialEq, Eq)]
+pub struct Token {
+    /// 1 to 12.
+    pub kind: u32,
+    /// Offset of the first byte, delimiter included.
+    pub at: usize,
+    /// Offset of the content's first byte.
+    pub start: usize,
+    /// Offset after the content.
+    pub end: usize,
+}
+
+// ---------------------------------------------------------------- bytes
+
+fn is_blank(byte: u8) -> bool {
+    matches!(byte, 9 | 11 | 32)
+}
+
+fn is_terminate(byte: u8) -> bool {
+    matches!(byte, 10 | 12 | 13)
+}
+
+fn is_white(byte: u8) -> bool {
+    is_blank(byte) || is_terminate(byte)
+}
+
+fn is_allowed(byte: u8) -> bool {
+    is_white(byte) || (33..=126).contains(&byte)
+}
+
+/// Whether white space or the end stands at an offset.
+fn white_at(file: &[u8], at: usize) -> bool {
+    at >= file.len() || is_white(file[at])
+}
+
+// --------------------------------------------------------------- tokens
+
+/// The tokens of a file of any size, or the first of refusals 2 to 6.
+pub fn tokens(file: &[u8]) -> Result<Vec<Token>, Refusal> {
+    if let Some(place) = file.iter().position(|&byte| !is_allowed(byte)) {
+        return Err(Refusal { number: 2, place });
+    }
+    let mut tokens = Vec::new();
+    let mut at = 0;
+    while at < file.len() {
+        let first = file[at];
+        if is_white(first) {
+            at += 1;
+        } else if first == b'#' {
+            at += file[at..].iter().take_while(|&&b| !is_terminate(b)).count();
+        } else {
+            let line_start = at == 0 || is_terminate(file[at - 1]);
+            let token = if first == b';' && line_start {
+                text_field(file, at)?
+            } else if first == b'\'' || first == b'"' {
+                quoted(file, at)?
+            } else {
+                word(file, at)?
+            };
+            at = after(&token);
+            tokens.push(token);
+        }
+    }
+    Ok(tokens)
+}
+
+/// The offset after a token's last byte, its closing delimiter included.
+fn after(token: &Token) -> usize {
+    match token.kind {
+        9 | 10 => token.end + 1,
+        11 => token.end + 2,
+        _ => token.end,
+    }
+}
+
+fn text_field(file: &[u8], at: usize) -> Result<Token, Refusal> {
+    let refusal = Refusal { number: 6, place: at };
+    let start = at + 1;
+    let closes = |&end: &usize| is_terminate(file[end]) && file.get(end + 1) == Some(&b';');
+    let end = (start..file.len()).find(closes).ok_or(refusal)?;
+    // choice: a closing `;` followed by another byte refuses at once
+    if white_at(file, end + 2) {
+        Ok(Token { kind: 11, at, start, end })
+    } else {
+        Err(refusal)
+    }
+}
+
+fn quoted(file: &[u8], at: usize) -> Result<Token, Refusal> {
+    let start = at + 1;
+    for end in start..file.len() {
+        if is_terminate(file[end]) {
+            break;
+        }
+        if file[end] == file[at] && white_at(file, end + 1) {
+            let kind = if file[at] == b'\'' { 9 } else { 10 };
+            return Ok(Token { kind, at, start, end });
+        }
+    }
+    Err(Refusal { number: 5, place: at })
+}
+
+fn word(file: &[u8], at: usize) -> Result<Token, Refusal> {
+    let end = at + file[at..].iter().take_while(|&&b| !is_white(b)).count();
+    let word = &file[at..end];
+    let (kind, lead) = match word {
+        b"save_" => (3, 0),
+        b"loop_" => (4, 0),
+        b"stop_" => (5, 0),
+        b"global_" => (12, 0),
+        b"data_" | b"_" => return Err(Refusal { number: 3, place: at }),
+        _ if word.starts_with(b"data_") => (1, 5),
+        _ if word.starts_with(b"save_") => (2, 5),
+        _ if word.starts_with(b"loop_") => return Err(Refusal { number: 3, place: at }),
+        _ if word.starts_with(b"stop_") => return Err(Refusal { number: 3, place: at }),
+        _ if word.starts_with(b"global_") => return Err(Refusal { number: 3, place: at }),
+        _ if word[0] == b'_' => (6, 0),
+        _ if word[0] == b'$' && word.len() > 1 => (8, 1),
+        _ => (7, 0),
+    };
+    let start = at + lead;
+    if matches!(kind, 1 | 2 | 6) && end - start > 32 {
+        return Err(Refusal { number: 4, place: at });
+    }
+    Ok(Token { kind, at, start, end })
+}
+
+// -------------------------------------------------------------- grammar
+
+/// The rows of tables 2 to 5.
+#[derive(Clone, Debug, Default, PartialEq, Eq)]
+pub struct Rows {
+    /// Kind, heading token, parent set.
+    pub sets: Vec<[u32; 3]>,
+    /// Set, name token, loop, level.
+    pub names: Vec<[u32; 4]>,
+    /// Loop, level, parent packet.
+    pub packets: Vec<[u32; 3]>,
+    /// Name row, packet, token.
+    pub values: Vec<[u32; 3]>,
+}
+
+/// The rows of a file's tokens, or the first of refusals 8 to 12.
+pub fn rows(file: &[u8], tokens: &[Token]) -> Result<Rows, Refusal> {
+    let mut parser = Parser { file, tokens, next: 0, loops: 0, rows: Rows::default() };
+    let mut codes = HashSet::new();
+    loop {
+        match parser.kind() {
+            0 => return Ok(parser.rows),
+            1 => parser.block(&mut codes)?,
+            _ => return parser.refuse(8),
+        }
+    }
+}
+
+type Contents<'a> = HashSet<&'a [u8]>;
+
+struct Parser<'a> {
+    file: &'a [u8],
+    tokens: &'a [Token],
+    /// Tokens taken so far; the row of the last one.
+    next: usize,
+    loops: u32,
+    rows: Rows,
+}
+
+impl<'a> Parser<'a> {
+    /// The next token's kind, 0 at the end.
+    fn kind(&self) -> u32 {
+        self.tokens.get(self.next).map_or(0, |token| token.kind)
+    }
+
+    fn value_comes(&self) -> bool {
+        (7..=11).contains(&self.kind())
+    }
+
+    /// A refusal at the next token or the end; `global_` is always 12.
+    fn refuse<T>(&self, number: u32) -> Result<T, Refusal> {
+        let number = if self.kind() == 12 { 12 } else { number };
+        let place = self.tokens.get(self.next).map_or(self.file.len(), |token| token.at);
+        Err(Refusal { number, place })
+    }
+
+    /// Takes the next token, whatever it is, and answers its row.
+    fn take(&mut self) -> u32 {
+        self.next += 1;
+        self.next as u32
+    }
+
+    /// Takes a name or code, refusing one already taken.
+    fn take_unique(&mut self, taken: &mut Contents<'a>) -> Result<u32, Refusal> {
+        let token = self.tokens[self.next];
+        let file = self.file;
+        if !taken.insert(&file[token.start..token.end]) {
+            return self.refuse(9);
+        }
+        Ok(self.take())
+    }
+
+    fn take_value(&mut self, name: u32, packet: u32) {
+        let token = self.take();
+        self.rows.values.push([name, packet, token]);
+    }
+
+    /// A heading, then items, loops and save frames.
+    fn block(&mut self, block_codes: &mut Contents<'a>) -> Result<(), Refusal> {
+        let heading = self.take_unique(block_codes)?;
+        self.rows.sets.push([1, heading, 0]);
+        let set = self.rows.sets.len() as u32;
+        let mut names = HashSet::new();
+        let mut frame_codes = HashSet::new();
+        loop {
+            match self.kind() {
+                6 => self.item(set, &mut names)?,
+                4 => self.data_loop(set, &mut names)?,
+                2 => self.frame(set, &mut frame_codes)?,
+                0 | 1 => return Ok(()),
+                _ => return self.refuse(8),
+            }
+        }
+    }
+
+    /// A heading, items and loops, and `save_`.
+    fn frame(&mut self, block: u32, frame_codes: &mut Contents<'a>) -> Result<(), Refusal> {
+        let heading = self.take_unique(frame_codes)?;
+        self.rows.sets.push([2, heading, block]);
+        let set = self.rows.sets.len() as u32;
+        let mut names = HashSet::new();
+        loop {
+            match self.kind() {
+                6 => self.item(set, &mut names)?,
+                4 => self.data_loop(set, &mut names)?,
+                3 => {
+                    self.take();
+                    return Ok(());
+                }
+                _ => return self.refuse(8),
+            }
+        }
+    }
+
+    /// A name and one value.
+    fn item(&mut self, set: u32, names: &mut Contents<'a>) -> Result<(), Refusal> {
+        let token = self.take_unique(names)?;
+        self.rows.names.push([set, token, 0, 0]);
+        let name = self.rows.names.len() as u32;
+        if !self.value_comes() {
+            return self.refuse(8);
+        }
+        self.take_value(name, 0);
+        Ok(())
+    }
+
+    /// Names of one level and more, header stops, and packets.
+    fn data_loop(&mut self, set: u32, names: &mut Contents<'a>) -> Result<(), Refusal> {
+        self.loops += 1;
+        let number = self.loops;
+        // the name rows of each level
+        let mut levels: Vec<Vec<u32>> = Vec::new();
+        while self.kind() == 4 {
+            if levels.len() == 8 {
+                return self.refuse(11);
+            }
+            self.take();
+            let mut level = Vec::new();
+            while self.kind() == 6 {
+                let token = self.take_unique(names)?;
+                self.rows.names.push([set, token, number, levels.len() as u32 + 1]);
+                level.push(self.rows.names.len() as u32);
+            }
+            if level.is_empty() {
+                return self.refuse(8);
+            }
+            levels.push(level);
+        }
+        for _inner in 1..levels.len() {
+            if self.kind() == 5 {
+                self.take();
+            }
+        }
+        if !self.value_comes() {
+            return self.refuse(8);
+        }
+        while self.value_comes() {
+            self.packet(number, &levels, 1, 0)?;
+        }
+        Ok(())
+    }
+
+    /// One value for each name of the level and, if there is a deeper level,
+    /// that level's packets and one `stop_`. A value comes next.
+    fn packet(
+        &mut self,
+        number: u32,
+        levels: &[Vec<u32>],
+        level: u32,
+        parent: u32,
+    ) -> Result<(), Refusal> {
+        self.rows.packets.push([number, level, parent]);
+        let packet = self.rows.packets.len() as u32;
+        for &name in &levels[0] {
+            // choice: a packet that is begun and not full takes values alone
+            if !self.value_comes() {
+                return self.refuse(10);
+            }
+            self.take_value(name, packet);
+        }
+        let deeper = &levels[1..];
+        if deeper.is_empty() {
+            return Ok(());
+        }
+        while self.value_comes() {
+            self.packet(number, deeper, level + 1, packet)?;
+        }
+        if self.kind() != 5 {
+            return self.refuse(10);
+        }
+        self.take();
+        Ok(())
+    }
+}
+
+// -------------------------------------------------------------- reading
+
+/// A file's tokens, none if it does not split into them, and its rows or the
+/// refusal it meets however much room there is.
+fn parsed(file: &[u8]) -> (Vec<Token>, Result<Rows, Refusal>) {
+    if file.len() > MOST_BYTES {
+        return (Vec::new(), Err(Refusal { number: 1, place: 0 }));
+    }
+    match tokens(file) {
+        Ok(tokens) => {
+            let rows = rows(file, &tokens);
+            (tokens, rows)
+        }
+        Err(refusal) => (Vec::new(), Err(refusal)),
+    }
+}
+
+/// The words that the file's rows need in each table. Where the file is
+/// refused whatever the room, only tokens that it splits into need any.
+pub fn words_needed(file: &[u8]) -> [usize; 5] {
+    match parsed(file) {
+        (tokens, Ok(rows)) => words(&tokens, &rows).map(|table| table.len()),
+        (tokens, Err(_)) => [3 * tokens.len(), 0, 0, 0, 0],
+    }
+}
+
+fn words(tokens: &[Token], rows: &Rows) -> [Vec<u32>; 5] {
+    let token_row = |token: &Token| [token.kind, token.start as u32, token.end as u32];
+    [
+        tokens.iter().flat_map(token_row).collect(),
+        rows.sets.concat(),
+        rows.names.concat(),
+        rows.packets.concat(),
+        rows.values.concat(),
+    ]
+}
+
+/// The tokens and tables of an accepted file, the tables without room to
+/// spare, or the refusal.
+fn reading(file: &[u8], room: [usize; 5]) -> Result<(Vec<Token>, [Vec<u32>; 5]), Refusal> {
+    let too_short = |table: usize| Refusal { number: 7, place: table + 1 };
+    let (tokens, rows) = parsed(file);
+    if 3 * tokens.len() > room[0] {
+        return Err(too_short(0));
+    }
+    let tables = words(&tokens, &rows?);
+    match (1..5).find(|&table| tables[table].len() > room[table]) {
+        Some(table) => Err(too_short(table)),
+        None => Ok((tokens, tables)),
+    }
+}
+
+/// Reads a file into tables of these lengths: the answer and every word.
+pub fn read(file: &[u8], room: [usize; 5]) -> (Reading, [Vec<u32>; 5]) {
+    match reading(file, room) {
+        Ok((_, tables)) => (accepted(&tables), padded(tables, room)),
+        Err(refusal) => (refused(refusal), padded(Default::default(), room)),
+    }
+}
+
+/// The tables with 0 in every word after the last row.
+fn padded(mut tables: [Vec<u32>; 5], room: [usize; 5]) -> [Vec<u32>; 5] {
+    for (table, room) in tables.iter_mut().zip(room) {
+        table.resize(room, 0);
+    }
+    tables
+}
+
+fn accepted(tables: &[Vec<u32>; 5]) -> Reading {
+    let count = |table: usize| (tables[table].len() / WIDTHS[table]) as u32;
+    Reading {
+        refusal: 0,
+        place: 0,
+        tokens: count(0),
+        sets: count(1),
+        names: count(2),
+        packets: count(3),
+        values: count(4),
+    }
+}
+
+fn refused(refusal: Refusal) -> Reading {
+    Reading { refusal: refusal.number, place: refusal.place as u32, ..Reading::default() }
+}
+
+// -------------------------------------------------------------- writing
+
+/// The plain form of tokens of a file, however long.
+pub fn plain_form(file: &[u8], tokens: &[Token]) -> Vec<u8> {
+    let mut plain = Vec::new();
+    for token in tokens {
+        let content = &file[token.start..token.end];
+        let (before, after): (&[u8], &[u8]) = match token.kind {
+            1 => (b"data_", b""),
+            2 => (b"save_", b""),
+            7 if content[0] == b';' => (b" ", b""),
+            8 => (b"$", b""),
+            9 => (b"'", b"'"),
+            10 => (b"\"", b"\""),
+            11 => (b";", b"\n;"),
+            _ => (b"", b""),
+        };
+        plain.extend_from_slice(before);
+        plain.extend_from_slice(content);
+        plain.extend_from_slice(after);
+        plain.push(b'\n');
+    }
+    plain
+}
+
+/// Reads a file and writes its plain form, into tables and an output of these
+/// lengths: the answer, every word and every byte.
+pub fn write(file: &[u8], room: [usize; 5], out: usize) -> (Written, [Vec<u32>; 5], Vec<u8>) {
+    let written = reading(file, room).and_then(|(tokens, tables)| {
+        let plain = plain_form(file, &tokens);
+        if plain.len() > MOST_BYTES {
+            Err(Refusal { number: 1, place: 0 })
+        } else if plain.len() > out {
+            Err(Refusal { number: 7, place: 6 })
+        } else {
+            Ok((accepted(&tables), tables, plain))
+        }
+    });
+    let (answer, tables, mut plain) =
+        written.unwrap_or_else(|refusal| (refused(refusal), Default::default(), Vec::new()));
+    let answer = Written {
+        refusal: answer.refusal,
+        place: answer.place,
+        length: plain.len() as u32,
+        tokens: answer.tokens,
+        sets: answer.sets,
+        names: answer.names,
+        packets: answer.packets,
+        values: answer.values,
+    };
+    plain.resize(out, 0);
+    (answer, padded(tables, room), plain)
+}
+
+// -------------------------------------------------------------- finding
+
+/// Whether every count is within what its table holds.
+/// choice: all five are checked in every lookup
+fn counts_hold(tables: Tables<'_>, counts: Counts) -> bool {
+    let holds = |count: u32, table: &[u32], width: usize| count as usize <= table.len() / width;
+    holds(counts.tokens, tables.tokens, 3)
+        && holds(counts.sets, tables.sets, 3)
+        && holds(counts.names, tables.names, 4)
+        && holds(counts.packets, tables.packets, 3)
+        && holds(counts.values, tables.values, 3)
+}
+
+/// Whether a row number is one of a table with this count.
+fn within(row: u32, count: u32) -> bool {
+    1 <= row && row <= count
+}
+
+/// The kind and the part of a token row, if the row and its span are inside.
+fn token_part(
+    file: &[u8],
+    tables: Tables<'_>,
+    counts: Counts,
+    row: u32,
+) -> Option<(u32, usize, usize)> {
+    if !within(row, counts.tokens) {
+        return None;
+    }
+    let words = &tables.tokens[3 * (row as usize - 1)..3 * row as usize];
+    let (start, end) = (words[1] as usize, words[2] as usize);
+    (start <= end && end <= file.len()).then_some((words[0], start, end))
+}
+
+/// The first of these rows, each with its token row, whose content is sought.
+fn first_equal(
+    file: &[u8],
+    tables: Tables<'_>,
+    counts: Counts,
+    rows: impl Iterator<Item = (usize, u32)>,
+    sought: &[u8],
+) -> Found {
+    for (at, token) in rows {
+        match token_part(file, tables, counts, token) {
+            None => return Found { refusal: 14, row: 0 },
+            Some((_, start, end)) if &file[start..end] == sought => {
+                return Found { refusal: 0, row: at as u32 + 1 };
+            }
+            Some(_) => {}
+        }
+    }
+    Found { refusal: 13, row: 0 }
+}
+
+/// Finds a data block by its code.
+pub fn find_block(file: &[u8], tables: Tables<'_>, counts: Counts, code: &[u8]) -> Found {
+    if !counts_hold(tables, counts) {
+        return Found { refusal: 14, row: 0 };
+    }
+    let sets = tables.sets.chunks_exact(3).take(counts.sets as usize).enumerate();
+    // choice: kind 1 makes a block, whatever its parent
+    let blocks = sets.filter(|(_, set)| set[0] == 1).map(|(at, set)| (at, set[1]));
+    first_equal(file, tables, counts, blocks, code)
+}
+
+/// Finds a save frame of a set by its code.
+pub fn find_frame(file: &[u8], tables: Tables<'_>, counts: Counts, set: u32, code: &[u8]) -> Found {
+    if !counts_hold(tables, counts) || !within(set, counts.sets) {
+        return Found { refusal: 14, row: 0 };
+    }
+    let sets = tables.sets.chunks_exact(3).take(counts.sets as usize).enumerate();
+    let frames = sets.filter(|(_, row)| row[0] == 2 && row[2] == set);
+    first_equal(file, tables, counts, frames.map(|(at, row)| (at, row[1])), code)
+}
+
+/// Finds a name of a set.
+pub fn find_name(file: &[u8], tables: Tables<'_>, counts: Counts, set: u32, name: &[u8]) -> Found {
+    if !counts_hold(tables, counts) || !within(set, counts.sets) {
+        return Found { refusal: 14, row: 0 };
+    }
+    let names = tables.names.chunks_exact(4).take(counts.names as usize).enumerate();
+    let own = names.filter(|(_, row)| row[0] == set);
+    first_equal(file, tables, counts, own.map(|(at, row)| (at, row[1])), name)
+}
+
+/// The k-th value of a name row: kind, packet and part, or the refusal.
+fn value(
+    file: &[u8],
+    tables: Tables<'_>,
+    counts: Counts,
+    name_row: u32,
+    k: u32,
+) -> Result<(u32, u32, Part), u32> {
+    if !counts_hold(tables, counts) || !within(name_row, counts.names) {
+        return Err(14);
+    }
+    if k == 0 {
+        return Err(13);
+    }
+    let values = tables.values.chunks_exact(3).take(counts.values as usize);
+    let mut own = values.filter(|row| row[0] == name_row);
+    let row = own.nth(k as usize - 1).ok_or(13u32)?;
+    let (kind, start, end) = token_part(file, tables, counts, row[2]).ok_or(14u32)?;
+    Ok((kind, row[1], Part { start, end }))
+}
+
+/// The kind and packet of the k-th value of a name row.
+pub fn value_at(file: &[u8], tables: Tables<'_>, counts: Counts, name_row: u32, k: u32) -> Value {
+    match value(file, tables, counts, name_row, k) {
+        Ok((kind, packet, _)) => Value { refusal: 0, kind, packet },
+        Err(refusal) => Value { refusal, kind: 0, packet: 0 },
+    }
+}
+
+/// Where in the file the k-th value of a name row stands; 0, 0 when refused.
+pub fn value_span(file: &[u8], tables: Tables<'_>, counts: Counts, name_row: u32, k: u32) -> Part {
+    match value(file, tables, counts, name_row, k) {
+        Ok((_, _, part)) => part,
+        Err(_) => Part { start: 0, end: 0 },
+    }
+}
+
+#[cfg(test)]
+mod tests {
+    use super::*;
+    use crate::notation::{escaped, unescaped, vectors};
+
+    const ROOM: [usize; 5] = [600; 5];
+
+    /// The refusal and place, or the row counts, that reading answers.
+    fn answer(file: &[u8]) -> Result<[u32; 5], (u32, u32)> {
+        let room = words_needed(file).map(|words| words + 1);
+        let (answer, _) = read(file, room);
+        match answer.refusal {
+            0 => Ok([answer.tokens, answer.sets, answer.names, answer.packets, answer.values]),
+            number => Err((number, answer.place)),
+        }
+    }
+
+    #[test]
+    fn vectors_are_answered() {
+        let list = vectors(include_str!("../vectors/base.txt"));
+        assert_eq!(list.len(), 130);
+        for vector in list {
+            let (answer, tables) = read(&vector.file, ROOM);
+            let shown = format!("line {}: {}", vector.line, escaped(&vector.file));
+            assert_eq!((answer.refusal, answer.place), (vector.refusal, vector.place), "{shown}");
+            let Counts { tokens, sets, names, packets, values } = answer.counts();
+            assert_eq!([tokens, sets, names, packets, values], vector.counts, "{shown}");
+            for (table, mut rows) in tables.into_iter().zip(vector.tables) {
+                rows.resize(600, 0);
+                assert_eq!(table, rows, "{shown}");
+            }
+            let (written, _, mut out) = write(&vector.file, ROOM, 900);
+            assert_eq!(written.reading(), answer, "{shown}");
+            assert!(out.split_off(written.length as usize).iter().all(|&byte| byte == 0));
+            assert_eq!(out, vector.plain, "{shown}");
+        }
+    }
+
+    /// Known files of paper 01, `/` for byte 10, with the refusal and place.
+    #[test]
+    fn known_files_are_refused() {
+        let known = [
+            ("data_", 3, 0),
+            ("loop_", 8, 0),
+            ("data_a _x", 8, 9),
+            ("data_a _x 1 _x 2", 9, 12),
+            ("data_a loop_ _x _y 1 2 3", 10, 24),
+            ("data_a loop_ _x loop_ _y 1 2", 10, 28),
+            ("data_a loop_ _x 1 stop_", 8, 18),
+            ("data_a/_x/;p/;q", 6, 10),
+            ("data_a _x 'a", 5, 10),
+            ("data_a data_a", 9, 7),
+            ("global_", 12, 0),
+        ];
+        for (file, number, place) in known {
+            let file = file.replace('/', "\n");
+            assert_eq!(answer(file.as_bytes()), Err((number, place)), "{file}");
+        }
+    }
+
+    #[test]
+    fn known_files_are_accepted() {
+        assert_eq!(answer(b""), Ok([0; 5]));
+        let full = b"data_a\nloop_\n_x\nloop_\n_y\n1 2 3 stop_ 4 stop_\n";
+        assert_eq!(full.len(), 45);
+        assert_eq!(answer(full), Ok([11, 1, 2, 4, 4]));
+        let (_, tables) = read(full, [33, 3, 8, 12, 12]);
+        assert_eq!(tables[2], [1, 3, 1, 1, 1, 5, 1, 2]);
+        assert_eq!(tables[3], [1, 1, 0, 1, 2, 1, 1, 2, 1, 1, 1, 0]);
+        assert_eq!(tables[4], [1, 1, 6, 2, 2, 7, 2, 3, 8, 1, 4, 10]);
+        let plain = b"data_a\nloop_\n_x\nloop_\n_y\n1\n2\n3\nstop_\n4\nstop_\n";
+        assert_eq!(write(full, ROOM, plain.len()).2, plain);
+        assert_eq!(write(b"data_a _x ;b", ROOM, 14).2, b"data_a\n_x\n ;b\n");
+    }
+
+    /// The only value of `data_a _x` and what follows.
+    fn value_of(rest: &str) -> Vec<u8> {
+        let file = [b"data_a _x ", unescaped(rest).as_slice()].concat();
+        let (answer, tables) = read(&file, ROOM);
+        assert_eq!((answer.refusal, answer.values), (0, 1), "{rest}");
+        let part = value_span(&file, Tables::of(&tables), answer.counts(), 1, 1);
+        file[part.start..part.end].to_vec()
+    }
+
+    #[test]
+    fn known_values_are_found() {
+        assert_eq!(value_of("'it's'"), b"it's");
+        assert_eq!(value_of("C#N"), b"C#N");
+        assert_eq!(value_of("''' "), b"'");
+        assert_eq!(value_of(";b"), b";b");
+        // the text field of document 000
+        assert_eq!(value_of("\\n; School of CSSE\\n  UWA\\n;"), b" School of CSSE\n  UWA");
+    }
+
+    /// `data_a` and a loop of this many levels with one name each.
+    fn levels(count: usize) -> String {
+        let header: String = (1..=count).map(|level| format!(" loop_ _{level}")).collect();
+        format!("data_a{header}")
+    }
+
+    #[test]
+    fn eight_levels_and_no_ninth() {
+        let eight = levels(8) + " 1 2 3 4 5 6 7 8" + &" stop_".repeat(7);
+        assert_eq!(answer(eight.as_bytes()), Ok([32, 1, 8, 8, 8]));
+        let place = levels(8).len() as u32 + 1;
+        assert_eq!(answer((levels(9) + " 1").as_bytes()), Err((11, place)));
+        // a ninth `loop_` that would not be allowed in any case
+        assert_eq!(answer((levels(8) + " stop_ loop_").as_bytes()), Err((8, place + 6)));
+        assert_eq!(answer((levels(7) + " loop_ loop_").as_bytes()), Err((8, place - 3)));
+    }
+
+    #[test]
+    fn names_and_codes_of_32_bytes() {
+        for (head, tail) in [("data_", ""), ("data_a save_", " save_"), ("data_a _", " 1")] {
+            let lead = usize::from(head.ends_with(" _"));
+            let file = |length: usize| head.to_owned() + &"n".repeat(length - lead) + tail;
+            assert!(answer(file(32).as_bytes()).is_ok());
+            let place = head.rfind(' ').map_or(0, |at| at as u32 + 1);
+            assert_eq!(answer(file(33).as_bytes()), Err((4, place)));
+        }
+        let reference = "data_a _x $".to_owned() + &"f".repeat(1000);
+        assert_eq!(answer(reference.as_bytes()), Ok([3, 1, 1, 0, 1]));
+    }
+
+    #[test]
+    fn files_of_the_largest_size() {
+        let file = |length: usize| [b"data_a _x ".to_vec(), vec![b'v'; length - 10]].concat();
+        assert_eq!(answer(&file(1_048_576)), Ok([3, 1, 1, 0, 1]));
+        assert_eq!(answer(&file(1_048_577)), Err((1, 0)));
+        // 1 goes before 2
+        assert_eq!(answer(&vec![0; 1_048_577]), Err((1, 0)));
+        assert_eq!(answer(&vec![0; 1_048_576]), Err((2, 0)));
+        // without its last byte 10 the plain form is one byte longer
+        assert_eq!(write(&file(1_048_575), ROOM, 2_000_000).0.length, 1_048_576);
+        let (written, tables, out) = write(&file(1_048_576), ROOM, 2_000_000);
+        assert_eq!(written, Written { refusal: 1, ..Written::default() });
+        assert!(tables.iter().flatten().all(|&word| word == 0));
+        assert!(out.iter().all(|&byte| byte == 0));
+        // 1 goes before 7 at 6
+        assert_eq!(write(&file(1_048_576), ROOM, 0).0.refusal, 1);
+        assert_eq!(write(&file(1_048_575), ROOM, 1_048_575).0.refusal, 7);
+    }
+
+    #[test]
+    fn tables_one_word_short() {
+        let file = b"data_a _x 1 save_f loop_ _x 1 2 save_";
+        let needed = words_needed(file);
+        assert_eq!(read(file, needed).0.refusal, 0);
+        for table in 0..5 {
+            let mut room = needed;
+            room[table] -= 1;
+            let (answer, tables) = read(file, room);
+            let place = table as u32 + 1;
+            assert_eq!(answer, Reading { refusal: 7, place, ..Reading::default() });
+            assert!(tables.iter().flatten().all(|&word| word == 0));
+        }
+        // the lowest number first; table 1 before the grammar, the others after it
+        assert_eq!(read(file, [100, 100, 0, 100, 0]).0.place, 3);
+        assert_eq!(read(b"data_a _x", [5, 0, 0, 0, 0]).0.refusal, 7);
+        assert_eq!(read(b"data_a _x", [6, 0, 0, 0, 0]).0.refusal, 8);
+        assert_eq!(write(file, needed, 0).0.place, 6);
+    }
+
+    #[test]
+    fn lookups_trust_nothing() {
+        let file = b"data_a _x 1 save_f _y 2 save_";
+        let (answer, tables) = read(file, ROOM);
+        let (tables, counts) = (Tables::of(&tables), answer.counts());
+        assert_eq!(find_block(file, tables, counts, b"a"), Found { refusal: 0, row: 1 });
+        assert_eq!(find_block(file, tables, counts, b"f"), Found { refusal: 13, row: 0 });
+        assert_eq!(find_frame(file, tables, counts, 1, b"f"), Found { refusal: 0, row: 2 });
+        assert_eq!(find_frame(file, tables, counts, 2, b"f"), Found { refusal: 13, row: 0 });
+        assert_eq!(find_name(file, tables, counts, 2, b"_y"), Found { refusal: 0, row: 2 });
+        assert_eq!(find_name(file, tables, counts, 1, b"_y"), Found { refusal: 13, row: 0 });
+        assert_eq!(find_name(file, tables, counts, 3, b"_y"), Found { refusal: 14, row: 0 });
+        assert_eq!(value_at(file, tables, counts, 2, 1), Value { refusal: 0, kind: 7, packet: 0 });
+        assert_eq!(value_at(file, tables, counts, 2, 0).refusal, 13);
+        assert_eq!(value_at(file, tables, counts, 2, 2).refusal, 13);
+        assert_eq!(value_at(file, tables, counts, 3, 0).refusal, 14);
+        let many = Counts { packets: 201, ..counts };
+        assert_eq!(find_block(file, tables, many, b"a"), Found { refusal: 14, row: 0 });
+        // a file cut short: met only at the second name's set
+        let cut = &file[..15];
+        assert_eq!(find_block(cut, tables, counts, b"a").refusal, 0);
+        assert_eq!(find_name(cut, tables, counts, 2, b"_y").refusal, 14);
+        assert_eq!(value_at(cut, tables, counts, 2, 1).refusal, 14);
+        assert_eq!(value_span(cut, tables, counts, 2, 1), Part { start: 0, end: 0 });
+    }
+}

@@ -1,0 +1,188 @@
+//! Safe wrappers around the library.
+//!
+//! Slices keep every promise that the C interface asks: their pointers are
+//! non-null and aligned, also when empty, and what is lent mutably overlaps
+//! nothing else.
+
+use crate::raw;
+use crate::raw::{Counts, Found, Part, Reading, Value, Written};
+
+/// The five tables, lent to lookups.
+#[derive(Clone, Copy, Debug)]
+pub struct Tables<'a> {
+    /// Kind, start and end of content.
+    pub tokens: &'a [u32],
+    /// Kind, heading token, parent set.
+    pub sets: &'a [u32],
+    /// Set, name token, loop, level.
+    pub names: &'a [u32],
+    /// Loop, level, parent packet.
+    pub packets: &'a [u32],
+    /// Name row, packet, token.
+    pub values: &'a [u32],
+}
+
+/// The five tables, lent to reading and writing.
+#[derive(Debug)]
+pub struct TablesMut<'a> {
+    /// Kind, start and end of content.
+    pub tokens: &'a mut [u32],
+    /// Kind, heading token, parent set.
+    pub sets: &'a mut [u32],
+    /// Set, name token, loop, level.
+    pub names: &'a mut [u32],
+    /// Loop, level, parent packet.
+    pub packets: &'a mut [u32],
+    /// Name row, packet, token.
+    pub values: &'a mut [u32],
+}
+
+impl<'a> Tables<'a> {
+    /// The tables in the order of their numbers.
+    pub fn of(tables: &'a [Vec<u32>; 5]) -> Self {
+        let [tokens, sets, names, packets, values] = tables;
+        Tables { tokens, sets, names, packets, values }
+    }
+}
+
+impl<'a> TablesMut<'a> {
+    /// The tables in the order of their numbers.
+    pub fn of(tables: &'a mut [Vec<u32>; 5]) -> Self {
+        let [tokens, sets, names, packets, values] = tables;
+        TablesMut { tokens, sets, names, packets, values }
+    }
+}
+
+impl Reading {
+    /// The row counts, as lookups take them.
+    pub fn counts(&self) -> Counts {
+        Counts {
+            tokens: self.tokens,
+            sets: self.sets,
+            names: self.names,
+            packets: self.packets,
+            values: self.values,
+        }
+    }
+}
+
+impl Written {
+    /// The reading that writing answers along with its length.
+    pub fn reading(&self) -> Reading {
+        Reading {
+            refusal: self.refusal,
+            place: self.place,
+            tokens: self.tokens,
+            sets: self.sets,
+            names: self.names,
+            packets: self.packets,
+            values: self.values,
+        }
+    }
+}
+
+/// Reads a file into the tables.
+pub fn read(file: &[u8], tables: TablesMut<'_>) -> Reading {
+    // SAFETY: every range is a slice, and those lent mutably are apart from all others.
+    unsafe {
+        raw::star_read(
+            file.as_ptr(),
+            file.len(),
+            tables.tokens.as_mut_ptr(),
+            tables.tokens.len(),
+            tables.sets.as_mut_ptr(),
+            tables.sets.len(),
+            tables.names.as_mut_ptr(),
+            tables.names.len(),
+            tables.packets.as_mut_ptr(),
+            tables.packets.len(),
+            tables.values.as_mut_ptr(),
+            tables.values.len(),
+        )
+    }
+}
+
+/// Reads a file into the tables and writes its plain form.
+pub fn write(file: &[u8], tables: TablesMut<'_>, out: &mut [u8]) -> Written {
+    // SAFETY: every range is a slice, and those lent mutably are apart from all others.
+    unsafe {
+        raw::star_write(
+            file.as_ptr(),
+            file.len(),
+            tables.tokens.as_mut_ptr(),
+            tables.tokens.len(),
+            tables.sets.as_mut_ptr(),
+            tables.sets.len(),
+            tables.names.as_mut_ptr(),
+            tables.names.len(),
+            tables.packets.as_mut_ptr(),
+            tables.packets.len(),
+            tables.values.as_mut_ptr(),
+            tables.values.len(),
+            out.as_mut_ptr(),
+            out.len(),
+        )
+    }
+}
+
+/// Calls a lookup with the file, the tables, the counts and what else it takes.
+macro_rules! look {
+    ($call:ident, $file:expr, $tables:expr, $counts:expr, $($more:expr),*) => {
+        // SAFETY: every range is a slice, and the call writes to none of them.
+        unsafe {
+            raw::$call(
+                $file.as_ptr(),
+                $file.len(),
+                $tables.tokens.as_ptr(),
+                $tables.tokens.len(),
+                $tables.sets.as_ptr(),
+                $tables.sets.len(),
+                $tables.names.as_ptr(),
+                $tables.names.len(),
+                $tables.packets.as_ptr(),
+                $tables.packets.len(),
+                $tables.values.as_ptr(),
+                $tables.values.len(),
+                $counts,
+                $($more),*
+            )
+        }
+    };
+}
+
+/// Finds the data block with this code.
+pub fn find_block(file: &[u8], tables: Tables<'_>, counts: Counts, code: &[u8]) -> Found {
+    look!(star_find_block, file, tables, counts, code.as_ptr(), code.len())
+}
+
+/// Finds the save frame of a set with this code.
+pub fn find_frame(file: &[u8], tables: Tables<'_>, counts: Counts, set: u32, code: &[u8]) -> Found {
+    look!(star_find_frame, file, tables, counts, set, code.as_ptr(), code.len())
+}
+
+/// Finds the name row of a set with this name, underscore included.
+pub fn find_name(file: &[u8], tables: Tables<'_>, counts: Counts, set: u32, name: &[u8]) -> Found {
+    look!(star_find_name, file, tables, counts, set, name.as_ptr(), name.len())
+}
+
+/// The kind and packet of the k-th value of a name row, k from 1.
+pub fn value_at(file: &[u8], tables: Tables<'_>, counts: Counts, name_row: u32, k: u32) -> Value {
+    look!(star_value_at, file, tables, counts, name_row, k)
+}
+
+/// Where in the file the k-th value of a name row stands.
+pub fn value_span(file: &[u8], tables: Tables<'_>, counts: Counts, name_row: u32, k: u32) -> Part {
+    look!(star_value_part, file, tables, counts, name_row, k)
+}
+
+/// The k-th value of a name row as a part of the file, empty when refused.
+pub fn value_part<'f>(
+    file: &'f [u8],
+    tables: Tables<'_>,
+    counts: Counts,
+    name_row: u32,
+    k: u32,
+) -> &'f [u8] {
+    let part = value_span(file, tables, counts, name_row, k);
+    &file[part.start..part.end]
+}

@@ -1,0 +1,313 @@
+//! The library beside the reference on many files, tables and questions.
+//!
+//! Every group has a number of seeds and a time: it goes through its first
+//! tenth in any case and on until either runs out. STAR_COMPARE_TIMES=n takes
+//! n times as many seeds and as long; STAR_COMPARE_SEED=s begins at seed s.
+
+mod harness;
+
+use std::env;
+use std::time::{Duration, Instant};
+
+use harness::{check, check_lookups, read, round_trip, write, Tally};
+use tackturnel_host::generate::{self, Handed, Rng};
+use tackturnel_host::reference;
+
+fn setting(name: &str, otherwise: f64) -> f64 {
+    match env::var(name) {
+        Ok(text) => text.parse().unwrap_or_else(|_| panic!("{name} is no number: {text}")),
+        Err(_) => otherwise,
+    }
+}
+
+/// Runs a group's seeds within its time.
+fn seeds(group: &str, count: u64, seconds: u64, mut run: impl FnMut(u64)) {
+    let times = setting("STAR_COMPARE_TIMES", 1.0);
+    assert!(times > 0.0, "STAR_COMPARE_TIMES is to be above 0");
+    let first = setting("STAR_COMPARE_SEED", 0.0) as u64;
+    let count = (count as f64 * times).ceil() as u64;
+    let until = Instant::now() + Duration::from_secs(seconds).mul_f64(times);
+    let mut done = 0;
+    while done < count && (done < count.div_ceil(10) || Instant::now() < until) {
+        run(first + done);
+        done += 1;
+    }
+    println!("{group}: {done} of {count} seeds from {first}");
+}
+
+/// Requires that each of these refusals was met, unless in a small part of a run.
+fn require(group: &str, tally: &Tally, refusals: &[usize]) {
+    println!("{group}: answers by refusal {tally:?}");
+    if setting("STAR_COMPARE_TIMES", 1.0) < 0.1 {
+        return;
+    }
+    for &refusal in refusals {
+        assert!(tally[refusal] > 0, "{group}: refusal {refusal} was never met");
+    }
+}
+
+fn some_file(rng: &mut Rng) -> Vec<u8> {
+    match rng.below(8) {
+        0 | 1 => generate::valid(rng),
+        2..=4 => generate::damaged(rng),
+        5 | 6 => generate::soup(rng),
+        _ => generate::bytes(rng),
+    }
+}
+
+fn handed(file: &[u8], spare: usize) -> Handed {
+    let room = reference::words_needed(file).map(|words| words + spare);
+    let (answer, tables) = reference::read(file, room);
+    Handed { file: file.to_vec(), tables, counts: answer.counts() }
+}
+
+#[test]
+fn generated_files() {
+    let mut tally = Tally::default();
+    seeds("generated files", 200_000, 40, |seed| {
+        let rng = &mut Rng::new(seed);
+        let file = some_file(rng);
+        let mut spares = vec![[0; 5], [9; 5]];
+        for table in 0..5 {
+            let mut short = [1; 5];
+            short[table] = -1;
+            spares.push(short);
+        }
+        spares.push(
+            [0; 5].map(|_: isize| rng.pick(&[-9999, -4, -3, -2, -1, 0, 0, 0, 1, 2, 3, 4, 30])),
+        );
+        for spare in spares {
+            let answer = check("reading", seed, &file, |file| read(seed, file, spare));
+            tally[answer.refusal as usize] += 1;
+        }
+        for spare_out in [0, -1, 20, rng.pick(&[-9999, -2, -7])] {
+            let out = |file: &[u8]| write(seed, file, [2; 5], spare_out);
+            let (answer, _) = check("writing", seed, &file, out);
+            tally[answer.refusal as usize] += 1;
+        }
+        check("round trip", seed, &file, round_trip);
+    });
+    require("generated files", &tally, &[0, 2, 3, 4, 5, 6, 7, 8, 9, 10, 11, 12]);
+}
+
+#[test]
+fn writing_into_every_room() {
+    seeds("writing into every room", 8_000, 8, |seed| {
+        let rng = &mut Rng::new(seed + 1_000_000);
+        let file = some_file(rng);
+        let mut spare = [0; 5];
+        spare[rng.below(5)] = rng.pick(&[-1, 0, 1]);
+        for spare_out in -12..4 {
+            check("writing", seed, &file, |file| write(seed, file, spare, spare_out));
+        }
+    });
+}
+
+#[test]
+fn tables_of_every_length() {
+    let files = [
+        "data_a _x 1 save_f loop_ _x 1 2 save_",
+        "data_a loop_ _x loop_ _y 1 2 3 stop_ 4 stop_ data_b _x 'a'",
+        "data_a loop_ _x loop_ _y 1 2 3",
+        "data_a _x",
+        "data_a data_a",
+        "",
+        "global_",
+    ];
+    for file in files {
+        let needed = reference::words_needed(file.as_bytes());
+        for table in 0..5 {
+            for spare in -(needed[table] as isize)..8 {
+                for others in [0, 3, -1] {
+                    let mut spares = [others; 5];
+                    spares[table] = spare;
+                    let read = |file: &[u8]| read(1, file, spares);
+                    check("every length", 0, file.as_bytes(), read);
+                }
+            }
+        }
+    }
+}
+
+/// Every row of tokens from a list, up to a length, whose tokens but for the
+/// last begin a file.
+fn every_row(file: &mut Vec<u8>, tokens: &[&str], more: usize, tally: &mut Tally) {
+    for token in tokens {
+        let length = file.len();
+        if length > 0 {
+            file.push(b' ');
+        }
+        file.extend_from_slice(token.as_bytes());
+        let answer = check("every row", 0, file, |file| read(1, file, [0; 5]));
+        tally[answer.refusal as usize] += 1;
+        let goes_on = answer.refusal == 0 || answer.place as usize == file.len();
+        if goes_on && more > 1 {
+            every_row(file, tokens, more - 1, tally);
+        }
+        file.truncate(length);
+    }
+}
+
+#[test]
+fn every_row_of_tokens() {
+    let mut tally = Tally::default();
+    let tokens =
+        ["data_a", "data_b", "save_f", "save_", "loop_", "stop_", "_x", "_y", "1", "global_"];
+    every_row(&mut Vec::new(), &tokens, 12, &mut tally);
+    // loops: names of two levels, then what may come in their packets
+    let inner = ["save_", "loop_", "stop_", "_x", "_z", "1", "data_b"];
+    for head in [
+        "data_a save_f loop_ _x loop_ _y",
+        "data_a loop_ _x _y loop_ _v _w",
+        "data_a loop_ _a loop_ _b loop_ _c",
+        "data_a loop_ _a loop_ _b loop_ _c loop_ _d loop_ _e loop_ _f loop_ _g loop_ _h",
+    ] {
+        every_row(&mut head.into(), &inner, 11, &mut tally);
+    }
+    require("every row of tokens", &tally, &[0, 8, 9, 10, 11, 12]);
+}
+
+/// Every file made of a head and up to so many of these bytes.
+fn every_file(file: &mut Vec<u8>, bytes: &[u8], more: usize, tally: &mut Tally) {
+    let answer = check("every file", 0, file, |file| read(1, file, [0; 5]));
+    check("every file", 0, file, |file| write(1, file, [0; 5], 0));
+    tally[answer.refusal as usize] += 1;
+    if more > 0 {
+        for &byte in bytes {
+            file.push(byte);
+            every_file(file, bytes, more - 1, tally);
+            file.pop();
+        }
+    }
+}
+
+#[test]
+fn every_short_file() {
+    let mut tally = Tally::default();
+    for head in ["", "data_a _x ", "data_a _x\n", "data_a loop_ _x\n"] {
+        every_file(&mut head.into(), b";'\"#_$a \n", 4, &mut tally);
+        every_file(&mut head.into(), b";'\n a", 6, &mut tally);
+    }
+    for head in ["data_a _x \"", "data_a _x '", "data_a _x\n;"] {
+        every_file(&mut head.into(), b"'\"; \t\n\x0b\x0c\r", 4, &mut tally);
+    }
+    // every byte in every place where one may matter
+    for byte in 0..=255 {
+        for head in
+            ["", "data_a", "data_a _x ", "data_a _x 'a'", "data_a _x 'a", "data_a _x\n;a\n;", "#"]
+        {
+            every_file(&mut head.into(), &[byte], 1, &mut tally);
+            every_file(&mut [head.as_bytes(), &[byte]].concat(), b";' a", 2, &mut tally);
+        }
+    }
+    // every beginning of every keyword, and one byte more
+    for keyword in ["data_", "loop_", "global_", "save_", "stop_", "_", "$"] {
+        for length in 0..=keyword.len() {
+            for head in ["", "data_a _x ", "data_a "] {
+                let file = head.to_owned() + &keyword[..length];
+                every_file(&mut file.into(), b"_axA1 ", 2, &mut tally);
+            }
+        }
+    }
+    require("every short file", &tally, &[0, 2, 3, 5, 6, 8, 12]);
+}
+
+#[test]
+fn largest_files() {
+    let mut tally = Tally::default();
+    let mut tallies = [Tally::default(); 4];
+    let rng = &mut Rng::new(5_000_000);
+    for (name, file) in generate::largest() {
+        let at_once = |spare: [isize; 5], tally: &mut Tally| {
+            let answer = check(name, 0, &file, |file| read(1, file, spare));
+            tally[answer.refusal as usize] += 1;
+        };
+        at_once([0; 5], &mut tally);
+        for table in [0, 4] {
+            let mut spare = [5; 5];
+            spare[table] = -1;
+            at_once(spare, &mut tally);
+        }
+        for spare_out in [0, -1, 100] {
+            let out = |file: &[u8]| write(1, file, [0; 5], spare_out);
+            let (answer, _) = check(name, 0, &file, out);
+            tally[answer.refusal as usize] += 1;
+        }
+        check(name, 0, &file, round_trip);
+        let handed = handed(&file, 0);
+        let mut questions: Vec<_> = (0..3).map(|_| generate::question(rng, &handed)).collect();
+        for k in [handed.counts.values, handed.counts.values + 1] {
+            questions.push(generate::Question { name_row: 1, k, ..questions[0].clone() });
+        }
+        check_lookups(name, 0, &handed, &questions, &mut tallies);
+    }
+    require("largest files", &tally, &[0, 1, 2, 5, 6, 7, 8, 9, 10]);
+}
+
+#[test]
+fn many_names() {
+    let mut tally = Tally::default();
+    seeds("many names", 240, 15, |seed| {
+        let rng = &mut Rng::new(seed);
+        let count = match seed % 40 {
+            0 => 12_000,
+            1..=4 => 4_000,
+            _ => rng.between(2, 400),
+        };
+        let file = generate::many_names(rng, count);
+        let answer = check("many names", seed, &file, |file| read(seed, file, [0; 5]));
+        tally[answer.refusal as usize] += 1;
+    });
+    require("many names", &tally, &[0, 9]);
+}
+
+#[test]
+fn lookups_in_readings() {
+    let mut tallies = [Tally::default(); 4];
+    seeds("lookups in readings", 10_000, 8, |seed| {
+        let rng = &mut Rng::new(seed + 2_000_000);
+        let handed = handed(&generate::valid(rng), rng.below(5));
+        let mut questions: Vec<_> = (0..20).map(|_| generate::question(rng, &handed)).collect();
+        // every name row and every one of its values, and one more
+        for row in 0..=handed.counts.names + 1 {
+            let values = handed.tables[4].chunks_exact(3).filter(|value| value[0] == row).count();
+            for k in 0..=values as u32 + 1 {
+                let more = generate::question(rng, &handed);
+                questions.push(generate::Question { name_row: row, k, ..more });
+            }
+        }
+        check_lookups("lookups in readings", seed, &handed, &questions, &mut tallies);
+    });
+    for tally in tallies {
+        require("lookups in readings", &tally, &[0, 13]);
+    }
+}
+
+#[test]
+fn lookups_in_spoiled_tables() {
+    let mut tallies = [Tally::default(); 4];
+    seeds("lookups in spoiled tables", 80_000, 15, |seed| {
+        let rng = &mut Rng::new(seed + 3_000_000);
+        let mut handed = handed(&generate::valid(rng), rng.below(9));
+        generate::spoil(rng, &mut handed);
+        let questions: Vec<_> = (0..20).map(|_| generate::question(rng, &handed)).collect();
+        check_lookups("lookups in spoiled tables", seed, &handed, &questions, &mut tallies);
+    });
+    for tally in tallies {
+        require("lookups in spoiled tables", &tally, &[0, 13, 14]);
+    }
+}
+
+#[test]
+fn lookups_in_random_tables() {
+    let mut tallies = [Tally::default(); 4];
+    seeds("lookups in random tables", 300_000, 15, |seed| {
+        let rng = &mut Rng::new(seed + 4_000_000);
+        let handed = generate::junk(rng);
+        let questions: Vec<_> = (0..12).map(|_| generate::question(rng, &handed)).collect();
+        check_lookups("lookups in random tables", seed, &handed, &questions, &mut tallies);
+    });
+    for tally in tallies {
+        require("lookups in random tables", &tally, &[0, 13, 14]);
+    }
+}

@@ -1,0 +1,189 @@
+//! The library on the vectors and on known files, through the wrappers.
+
+use std::collections::HashSet;
+
+use tackturnel_host::notation::{escaped, vectors};
+use tackturnel_host::{reference, star, Counts, Reading, Tables, TablesMut, Written};
+
+/// The answers of both calls on a file, tables of 900 words and an output of
+/// 2,000 bytes, all filled with 7s before.
+fn answers(file: &[u8]) -> (Reading, [Vec<u32>; 5], Written, Vec<u8>) {
+    let mut tables: [Vec<u32>; 5] = std::array::from_fn(|_| vec![7; 900]);
+    let mut written_tables = tables.clone();
+    let mut out = vec![7; 2000];
+    let reading = star::read(file, TablesMut::of(&mut tables));
+    let written = star::write(file, TablesMut::of(&mut written_tables), &mut out);
+    assert_eq!(written.reading(), reading, "{}", escaped(file));
+    assert_eq!(written_tables, tables, "{}", escaped(file));
+    (reading, tables, written, out)
+}
+
+#[test]
+fn vectors_are_answered() {
+    let list = vectors(include_str!("../vectors/base.txt"));
+    assert_eq!(list.len(), 130);
+    for vector in list {
+        let shown = format!("line {}: {}", vector.line, escaped(&vector.file));
+        let (reading, tables, written, mut out) = answers(&vector.file);
+        let (refusal, place) = (vector.refusal, vector.place);
+        assert_eq!((reading.refusal, reading.place), (refusal, place), "{shown}");
+        let Counts { tokens, sets, names, packets, values } = reading.counts();
+        assert_eq!([tokens, sets, names, packets, values], vector.counts, "{shown}");
+        for (table, mut rows) in tables.into_iter().zip(vector.tables) {
+            rows.resize(900, 0);
+            assert_eq!(table, rows, "{shown}");
+        }
+        let rest = out.split_off(written.length as usize);
+        assert_eq!(out, vector.plain, "{shown}");
+        assert!(rest.iter().all(|&byte| byte == 0), "{shown}");
+    }
+}
+
+/// All values of a name in a block or, if it is given, in a frame of it.
+fn column(file: &str, block: &str, frame: Option<&str>, name: &str) -> Vec<(u32, String)> {
+    let file = file.as_bytes();
+    let (reading, tables, ..) = answers(file);
+    assert_eq!(reading.refusal, 0, "{reading:?}");
+    let (tables, counts) = (Tables::of(&tables), reading.counts());
+    let found = star::find_block(file, tables, counts, block.as_bytes());
+    assert_eq!(found.refusal, 0, "{block}");
+    let mut set = found.row;
+    if let Some(frame) = frame {
+        let found = star::find_frame(file, tables, counts, set, frame.as_bytes());
+        assert_eq!(found.refusal, 0, "{frame}");
+        set = found.row;
+    }
+    let row = star::find_name(file, tables, counts, set, name.as_bytes()).row;
+    assert_ne!(row, 0, "{name}");
+    let mut column = Vec::new();
+    for k in 1.. {
+        let value = star::value_at(file, tables, counts, row, k);
+        if value.refusal != 0 {
+            assert_eq!(value.refusal, 13);
+            break;
+        }
+        let part = star::value_part(file, tables, counts, row, k);
+        column.push((value.packet, String::from_utf8_lossy(part).into_owned()));
+    }
+    column
+}
+
+fn texts(column: Vec<(u32, String)>) -> Vec<String> {
+    column.into_iter().map(|(_, text)| text).collect()
+}
+
+/// The examples of document 001.
+#[test]
+fn examples_of_1991() {
+    let file = "data_compound_B523\n\
+        _cell_volume  2310(2)\n\
+        _chemical_formula_moiety      'C23 H36 O7'\n\
+        _publ_contact_author\n\n;\n   Prof Barry O'Connell\n   Building #57-M5\n;\n\
+        loop_\n _exptl_crystal_face_index_h\n _exptl_crystal_face_index_k\n\
+        _exptl_crystal_face_index_l\n _exptl_crystal_face_perp_dist\n\
+        _exptl_crystal_face_name        # not std name\n\
+        _exptl_crystal_face_description # not std name\n\
+        0   0  -1 0.012 A 'well formed'\n 0   0   1 0.012 B *\n -1   0   0 0.023 C uneven\n\
+        1   0   0 0.027 D 'needs further grinding'\n 0   1   0 0.016 E *\n 0  -1   0 0.015 F pitted\n";
+    let block = "compound_B523";
+    let one = |name: &str| texts(column(file, block, None, name));
+    assert_eq!(one("_cell_volume"), ["2310(2)"]);
+    assert_eq!(one("_chemical_formula_moiety"), ["C23 H36 O7"]);
+    let author = "\n   Prof Barry O'Connell\n   Building #57-M5";
+    assert_eq!(one("_publ_contact_author"), [author]);
+    let described = ["well formed", "*", "uneven", "needs further grinding", "*", "pitted"];
+    assert_eq!(one("_exptl_crystal_face_description"), described);
+    assert_eq!(one("_exptl_crystal_face_index_l"), ["-1", "1", "0", "0", "0", "0"]);
+}
+
+/// The loops of documents 002 and 003, one level to three.
+#[test]
+fn examples_of_loops() {
+    let simple = "data_a loop_\n _atom_identity_number\n _atom_type_symbol      1 C   2 C   3 O\n";
+    assert_eq!(texts(column(simple, "a", None, "_atom_type_symbol")), ["C", "C", "O"]);
+    let bonds = "data_a loop_\n _atom_identity_node\n _atom_identity_symbol\n loop_\n\
+        _atom_bond_node_1\n _atom_bond_node_2\n _atom_bond_order\n\
+        A1 B1      1 2 single      stop_\n\
+        A2 B2      1 6 double     30 40 triple      stop_\n\
+        A3 B3      1 7 single      stop_\n";
+    assert_eq!(texts(column(bonds, "a", None, "_atom_identity_symbol")), ["B1", "B2", "B3"]);
+    let orders = column(bonds, "a", None, "_atom_bond_order");
+    let expected = [(2, "single"), (4, "double"), (5, "triple"), (7, "single")];
+    assert_eq!(orders, expected.map(|(packet, text)| (packet, text.to_owned())));
+    let levels = "data_a loop_\n _atomic_name\n loop_\n _level_scheme\n _level_energy\n loop_\n\
+        _function_exponent\n _function_coefficient\n hydrogen\n\
+        (2)->[2]      -0.485813\n 1.3324838E+01  1.0\n 2.0152720E-01  1.0 stop_\n\
+        (2)->[2]      -0.485813\n 1.3326990E+01  1.0\n 2.0154600E-01  1.0 stop_\n\
+        (2)->[1]      -0.485813\n 1.3324800E-01  2.7440850E-01\n 2.0152870E-01  8.2122540E-01 stop_\n\
+        (3)->[2]      -0.496979\n 4.5018000E+00  1.5628500E-01\n 6.8144400E-01  9.0469100E-01\n\
+        1.5139800E-01  1.0000000E+01 stop_ stop_\n";
+    assert_eq!(column(levels, "a", None, "_atomic_name"), [(1, "hydrogen".to_owned())]);
+    let schemes = texts(column(levels, "a", None, "_level_scheme"));
+    assert_eq!(schemes, ["(2)->[2]", "(2)->[2]", "(2)->[1]", "(3)->[2]"]);
+    let exponents = column(levels, "a", None, "_function_exponent");
+    assert_eq!(exponents.len(), 9);
+    assert_eq!(exponents[8], (14, "1.5139800E-01".to_owned()));
+    assert_eq!(texts(column(levels, "a", None, "_function_coefficient"))[8], "1.0000000E+01");
+}
+
+/// The save frames and data blocks of documents 002 and 003.
+#[test]
+fn examples_of_sets() {
+    let file = "data_example\nsave_phenyl\n  _object_class      molecular_fragment\n  loop_\n\
+        _atom_identity_node\n _atom_identity_symbol 1 C 2 C 3 C 4 C 5 C 6 C\nsave_\n\
+        loop_ _molecular_fragments $ethyl $phenyl $methyl\n\
+        loop_ _amino_acid_seq\n  _amino_acid_data  1 $tyr 2 $arg 3 $arg 4 $leu\n";
+    let frame = Some("phenyl");
+    assert_eq!(texts(column(file, "example", frame, "_object_class")), ["molecular_fragment"]);
+    assert_eq!(texts(column(file, "example", frame, "_atom_identity_symbol")), ["C"; 6]);
+    let fragments = texts(column(file, "example", None, "_molecular_fragments"));
+    assert_eq!(fragments, ["ethyl", "phenyl", "methyl"]);
+    assert_eq!(
+        texts(column(file, "example", None, "_amino_acid_data")),
+        ["tyr", "arg", "arg", "leu"]
+    );
+    let words = b"data_rhinovirus\nall information relevant to rhinovirus included here\n";
+    let (reading, ..) = answers(words);
+    assert_eq!((reading.refusal, reading.place), (8, 16));
+    // the text strings of 002
+    for (text, value) in [
+        ("light_blue", "light_blue"),
+        ("'light blue'", "light blue"),
+        ("'Patrick O'Connor'", "Patrick O'Connor"),
+        ("\"low melting point\"", "low melting point"),
+        ("\"classed as 'unknown'\"", "classed as 'unknown'"),
+        ("\n;\nDepartment of Computer Science\n\n;\n", "\nDepartment of Computer Science\n"),
+    ] {
+        let file = format!("data_a _publication_author_address {text}");
+        assert_eq!(texts(column(&file, "a", None, "_publication_author_address")), [value]);
+    }
+}
+
+/// The example of a measurement, within what the small program takes.
+#[test]
+fn measurement_is_read() {
+    let file = include_str!("../../examples/measurement.star");
+    assert!(file.len() <= 8192);
+    let room = [16_384; 5];
+    let (expected, expected_tables) = reference::read(file.as_bytes(), room);
+    assert_eq!(expected.refusal, 0, "place {}", expected.place);
+    let mut tables = room.map(|words| vec![7; words]);
+    let reading = star::read(file.as_bytes(), TablesMut::of(&mut tables));
+    assert_eq!(reading, expected);
+    assert_eq!(tables, expected_tables);
+    let (tables, counts) = (Tables::of(&tables), reading.counts());
+    let block = star::find_block(file.as_bytes(), tables, counts, b"quartz_17").row;
+    let frame = star::find_frame(file.as_bytes(), tables, counts, block, b"counter").row;
+    let value = |set: u32, name: &str, k: u32| {
+        let row = star::find_name(file.as_bytes(), tables, counts, set, name.as_bytes()).row;
+        let part = star::value_part(file.as_bytes(), tables, counts, row, k);
+        String::from_utf8_lossy(part).into_owned()
+    };
+    assert_eq!(value(block, "_exptl_crystal_operator", 1), "B. O'Connell");
+    assert_eq!(value(frame, "_attenuator_factor", 2), "3.51(2)");
+    assert_eq!(value(block, "_position_phi", 9), "15.0");
+    assert_eq!(value(block, "_meas_F_squared", 5), "885.6");
+    let kinds: HashSet<u32> = tables.tokens.chunks(3).map(|row| row[0]).collect();
+    assert!((1..=11).all(|kind| kinds.contains(&kind)), "{kinds:?}");
+    assert!(tables.packets.chunks(3).any(|row| row[1] == 3));
+}
