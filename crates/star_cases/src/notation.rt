@@ -1,25 +1,9 @@
-// The notation of the data file: a file a line, with \n \r \t \v \f \\ and \xNN as in C and every other byte as itself.
+// The notation of the data files: a file a line, with \n \r \t \v \f \\ and \xNN as in C and every other byte as itself.
 ghost use Prim.Native.Nat.{_+_, _<_, _≤_};
 ghost use lib.ListN.{length};
 
-// Where the line that begins at `from` ends: at a line end or where the lines end.
-pub fn line_end(lines: &[u8], from: usize) -> usize
-    requires { ⌜ from < length (now lines) ⌝ }
-    ensures { λ r. ⌜ from ≤ r ⌝ }
-    ensures { λ r. ⌜ r ≤ length (now (lines .entry)) ⌝ }
-{
-    let mut at = from;
-    while at < lines.len() {
-        if lines[at] == b'\n' {
-            return at;
-        }
-        at += 1;
-    }
-    at
-}
-
-// What a hexadecimal digit stands for.
-fn digit(b: u8) -> u8
+// What a decimal or hexadecimal digit stands for.
+pub fn digit(b: u8) -> u8
     ensures { λ r. ⌜ r < 16 ⌝ }
 {
     match b {

@@ -1,29 +1,50 @@
 // Words of a table.
-ghost use mathlib.Core.Path.{_≡_};
-ghost use lib.ListN.{length};
+ghost use Prim.Native.Nat.{_≤_};
 
-// What every word of a table is before a file is read.
-const FILLED: u32 = 4294967295;
+// What every word of a table is before a call.
+pub const FILLED: u32 = 4294967295;
 
-// A table with room for the rows of every case: a file of 8,192 bytes has at most 4,096 tokens.
-pub fn room() -> [u32; 12288]
-    ensures { λ r. ⌜ 12288 ≡ length r ⌝ }
+// The smaller of two numbers.
+pub fn least(a: usize, b: usize) -> usize
+    ensures { λ r. ⌜ r ≤ b ⌝ }
 {
-    [0; 12288]
+    if a < b { a } else { b }
 }
 
-// Fills a table with words that are not 0.
-pub fn fill(table: &mut [u32]) {
-    let mut at = 0;
-    while at < table.len() {
-        table[at] = FILLED;
+// The first words of a table, so many or all.
+pub fn first(table: &[u32], words: usize) -> &[u32] {
+    let end = least(words, table.len());
+    &table[0..end]
+}
+
+// What follows the first words of a table.
+pub fn behind(table: &[u32], words: usize) -> &[u32] {
+    let start = least(words, table.len());
+    &table[start..]
+}
+
+// The word at a place of a table, or 0.
+pub fn word(table: &[u32], at: usize) -> u32 {
+    if at < table.len() { table[at] } else { 0 }
+}
+
+// Copies words to a table from a place on, as far as it has room.
+pub fn copy(table: &mut [u32], from: usize, words: &[u32]) {
+    let mut at = from;
+    let mut i = 0;
+    while i < words.len() {
+        if table.len() <= at {
+            return;
+        }
+        table[at] = words[i];
         at += 1;
+        i += 1;
     }
 }
 
-// Whether every word from a place on is 0.
-pub fn clear_from(table: &[u32], from: usize) -> bool {
-    let mut at = from;
+// Whether every word is 0.
+pub fn clear(table: &[u32]) -> bool {
+    let mut at = 0;
     while at < table.len() {
         if table[at] != 0 {
             return false;

@@ -13,7 +13,7 @@ ghost use Rattle.star_lex.specs.LineEnd.{LineEnd};
 const TERMINATE: u8 = 3;
 
 // Whether white space or the end of the file stands at a place.
-pub fn white_at(classes: &[u8; 256], file: &[u8], at: usize) -> bool
+pub(crate) fn white_at(classes: &[u8; 256], file: &[u8], at: usize) -> bool
     requires { ⌜ Classes (now classes) ⌝ }
     ensures { λ r. ⌜ r ≡ whiteNext (drop at (now (file .entry))) ⌝ }
 {
@@ -49,7 +49,7 @@ fn quote_closes(classes: &[u8; 256], file: &[u8], at: usize, quote: u8) -> bool
 }
 
 // Where the quoted string whose content begins at `from` closes, or the file's length.
-pub fn quote_end(classes: &[u8; 256], file: &[u8], from: usize, quote: u8) -> usize
+pub(crate) fn quote_end(classes: &[u8; 256], file: &[u8], from: usize, quote: u8) -> usize
     requires { ⌜ Classes (now classes) ⌝ }
     ensures { λ r. ⌜ r ≡ endOf (length (now (file .entry))) from (quoted quote (drop from (now (file .entry)))) ⌝ }
 {
@@ -75,7 +75,7 @@ fn line_end(classes: &[u8; 256], file: &[u8], from: usize) -> usize
 }
 
 // Where the text field whose content begins at `from` closes, or the file's length.
-pub fn field_end(classes: &[u8; 256], file: &[u8], from: usize) -> usize
+pub(crate) fn field_end(classes: &[u8; 256], file: &[u8], from: usize) -> usize
     requires { ⌜ Classes (now classes) ⌝ }
     ensures { λ r. ⌜ r ≡ endOf (length (now (file .entry))) from (field (drop from (now (file .entry)))) ⌝ }
 {

@@ -109,7 +109,7 @@ fn keyword(word: &[u8]) -> Word
 }
 
 // The kind of a word.
-pub fn word_kind(word: &[u8]) -> Word
+pub(crate) fn word_kind(word: &[u8]) -> Word
     ensures { λ r. ⌜ ((more : ℕ) → r ≡ kindOf (wordLexeme more (now (word .entry)))) ⌝ }
 {
     let len = word.len();

@@ -8,7 +8,7 @@ ghost use Rattle.star_lex.specs.Plain.{plainOf};
 ghost use Rattle.star_unique.specs.Holds.{Holds, fileTokens};
 
 // How many bytes the tokens take. It is called by proved layers only, which hand it table 1 of the file.
-pub fn plain_length(file: &[u8], tokens: &[u32], count: usize) -> usize
+pub(crate) fn plain_length(file: &[u8], tokens: &[u32], count: usize) -> usize
     requires { ⌜ Holds (now file) (now tokens) count ⌝ }
     ensures { λ r. ⌜ r ≡ length (plainOf (fileTokens (now (file .entry)))) ⌝ }
 {
@@ -24,7 +24,7 @@ pub fn plain_length(file: &[u8], tokens: &[u32], count: usize) -> usize
 
 // Writes the tokens in order, each into the room that is left. It is called by proved layers only, which hand it table 1 of the file and lend room
 // enough.
-pub fn put_tokens(file: &[u8], tokens: &[u32], count: usize, out: &mut [u8])
+pub(crate) fn put_tokens(file: &[u8], tokens: &[u32], count: usize, out: &mut [u8])
     requires { ⌜ Holds (now file) (now tokens) count ⌝ }
     requires { ⌜ length (plainOf (fileTokens (now file))) ≤ length (now out) ⌝ }
     ensures { λ _. ⌜ now (out .exit) ≡ plainOf (fileTokens (now (file .entry)))

@@ -6,7 +6,7 @@ ghost use Rattle.star_rows.specs.Rows.{clearedFrom};
 ghost use Rattle.star_write.specs.Put.{Put};
 
 // Puts these bytes at a place, and answers the place after them. It is called by proved layers only, which lend room enough.
-pub fn put_bytes(out: &mut [u8], at: usize, bytes: &[u8]) -> usize
+pub(crate) fn put_bytes(out: &mut [u8], at: usize, bytes: &[u8]) -> usize
     requires { ⌜ at + length (now bytes) ≤ length (now out) ⌝ }
     ensures { λ r. ⌜ Put (now (bytes .entry)) at (now (out .entry)) (now (out .exit)) r ⌝ }
 {
@@ -19,7 +19,7 @@ pub fn put_bytes(out: &mut [u8], at: usize, bytes: &[u8]) -> usize
 }
 
 // Sets every byte from `from` on to 0.
-pub fn clear_bytes(out: &mut [u8], from: usize)
+pub(crate) fn clear_bytes(out: &mut [u8], from: usize)
     ensures { λ _. ⌜ now (out .exit) ≡ clearedFrom from (now (out .entry)) ⌝ }
 {
     let mut at = from;

@@ -63,7 +63,7 @@ fn put_closing(out: &mut [u8], at: usize, kind: u32) -> usize
 }
 
 // Writes a token at the start of the room that is left, and answers how many bytes. It is called by proved layers only, which lend room enough.
-pub fn put_token(out: &mut [u8], kind: u32, content: &[u8]) -> usize
+pub(crate) fn put_token(out: &mut [u8], kind: u32, content: &[u8]) -> usize
     requires { ⌜ length (plainToken (tokenOf kind (now content))) ≤ length (now out) ⌝ }
     ensures { λ r. ⌜ Filled (plainToken (tokenOf kind (now (content .entry)))) (now (out .entry)) (now (out .exit)) r ⌝ }
 {
@@ -94,7 +94,7 @@ fn closing_length(kind: u32) -> usize
 }
 
 // How many bytes a token takes, with the line end after it.
-pub fn token_length(kind: u32, content: &[u8]) -> usize
+pub(crate) fn token_length(kind: u32, content: &[u8]) -> usize
     ensures { λ r. ⌜ r ≡ length (plainToken (tokenOf kind (now (content .entry)))) ⌝ }
 {
     let start = indent_length(kind, content) + star_lex::word::lead(kind);

@@ -1,4 +1,5 @@
--- `run_lines` is safe and ends: each turn goes past the line that it runs.
+-- `run_lines` is safe and ends: each turn goes past the line that it runs, and a call leaves the lengths of what is lent.
+use mathlib.Core.Path.{_≡_}
 use Prim.Native.Nat.{_-_}
 use borrow.Author.Needs.{needs}
 use lib.ListN.{length}
@@ -6,16 +7,28 @@ use Rattle.star_cases.proofs.run_lines.Statement.{statement}
 use Rattle.star_cases.proofs.run_lines.Tie as tie
 
 abbrev Inv-loop : tie.InvT-loop
-Inv-loop lines at₀ at = Unit {0}
+Inv-loop lines are_calls file₀ kept₀ size₀ at₀ file kept size at = (length file ≡ length file₀) × (length kept ≡ length kept₀)
 
 abbrev μ-loop : tie.MeasureT-loop
-μ-loop lines at₀ at = length lines - at
+μ-loop lines are_calls file₀ kept₀ size₀ at₀ file kept size at = length lines - at
 
 loop-holds : tie.Need-loop-holds Inv-loop μ-loop
 loop-holds c = search needs
 
-line-end-requires : tie.Need-line-end-requires Inv-loop μ-loop
-line-end-requires c κs = search needs
+sub-before : tie.Need-sub-before Inv-loop μ-loop
+sub-before c = search needs
+
+part-before-start : tie.Need-part-before-start Inv-loop μ-loop
+part-before-start c = search needs
+
+part-before-end : tie.Need-part-before-end Inv-loop μ-loop
+part-before-end c = search needs
+
+before-requires : tie.Need-before-requires Inv-loop μ-loop
+before-requires c κs = search needs
+
+add-end : tie.Need-add-end Inv-loop μ-loop
+add-end c = search needs
 
 sub-run-line : tie.Need-sub-run-line Inv-loop μ-loop
 sub-run-line c = search needs
@@ -38,6 +51,12 @@ loop-less c = search needs
 loop-again : tie.Need-loop-again Inv-loop μ-loop
 loop-again c = search needs
 
+same-length : tie.Need-same-length Inv-loop μ-loop
+same-length c = search needs
+
+same-length-2 : tie.Need-same-length-2 Inv-loop μ-loop
+same-length-2 c = search needs
+
 returns : tie.Need-returns Inv-loop μ-loop
 returns c = search needs
 
@@ -48,7 +67,11 @@ run-lines-spec =
     Inv-loop
     μ-loop
     loop-holds
-    line-end-requires
+    sub-before
+    part-before-start
+    part-before-end
+    before-requires
+    add-end
     sub-run-line
     part-run-line-start
     part-run-line-end
@@ -56,4 +79,6 @@ run-lines-spec =
     add-at
     loop-less
     loop-again
+    same-length
+    same-length-2
     returns)

@@ -1,21 +1,18 @@
--- `clear_from` is safe and ends: each turn goes one word on.
-use Prim.Native.Nat.{_-_}
+-- `before` meets its contract: the place stays within the bytes.
+use Prim.Native.Nat.{_≤_, _-_}
 use borrow.Author.Needs.{needs}
 use lib.ListN.{length}
-use Rattle.star_cases.proofs.table.clear_from.Statement.{statement}
-use Rattle.star_cases.proofs.table.clear_from.Tie as tie
+use Rattle.star_cases.proofs.words.before.Statement.{statement}
+use Rattle.star_cases.proofs.words.before.Tie as tie
 
 abbrev Inv-loop : tie.InvT-loop
-Inv-loop table from at₀ at = Unit {0}
+Inv-loop bytes b at₀ at = at ≤ length bytes
 
 abbrev μ-loop : tie.MeasureT-loop
-μ-loop table from at₀ at = length table - at
+μ-loop bytes b at₀ at = length bytes - at
 
 loop-holds : tie.Need-loop-holds Inv-loop μ-loop
 loop-holds c = search needs
-
-mul-if1 : tie.Need-mul-if1 Inv-loop μ-loop
-mul-if1 c = search needs
 
 shared-slice-read-if1 : tie.Need-shared-slice-read-if1 Inv-loop μ-loop
 shared-slice-read-if1 c = search needs
@@ -35,14 +32,13 @@ loop-again c = search needs
 returns-2 : tie.Need-returns-2 Inv-loop μ-loop
 returns-2 c = search needs
 
-pub clear-from-spec : {M : Type 1} → statement M
-clear-from-spec =
+pub before-spec : {M : Type 1} → statement M
+before-spec =
     tie.close
     (tie.spec
     Inv-loop
     μ-loop
     loop-holds
-    mul-if1
     shared-slice-read-if1
     returns
     add-at

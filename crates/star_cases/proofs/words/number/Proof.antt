@@ -1,15 +1,15 @@
--- `line_end` meets its contract: the place stays between the start and the end of the lines.
-use Prim.Native.Nat.{_≤_, _-_}
+-- `number` is safe and ends: each turn goes one byte on.
+use Prim.Native.Nat.{_-_}
 use borrow.Author.Needs.{needs}
 use lib.ListN.{length}
-use Rattle.star_cases.proofs.notation.line_end.Statement.{statement}
-use Rattle.star_cases.proofs.notation.line_end.Tie as tie
+use Rattle.star_cases.proofs.words.number.Statement.{statement}
+use Rattle.star_cases.proofs.words.number.Tie as tie
 
 abbrev Inv-loop : tie.InvT-loop
-Inv-loop lines from at₀ at = (from ≤ at) × (at ≤ length lines)
+Inv-loop line n₀ at₀ n at = Unit {0}
 
 abbrev μ-loop : tie.MeasureT-loop
-μ-loop lines from at₀ at = length lines - at
+μ-loop line n₀ at₀ n at = length line - at
 
 loop-holds : tie.Need-loop-holds Inv-loop μ-loop
 loop-holds c = search needs
@@ -19,6 +19,12 @@ shared-slice-read-if1 c = search needs
 
 returns : tie.Need-returns Inv-loop μ-loop
 returns c = search needs
+
+shared-slice-read-with-digit : tie.Need-shared-slice-read-with-digit Inv-loop μ-loop
+shared-slice-read-with-digit c = search needs
+
+with-digit-requires : tie.Need-with-digit-requires Inv-loop μ-loop
+with-digit-requires c κs = search needs
 
 add-at : tie.Need-add-at Inv-loop μ-loop
 add-at c = search needs
@@ -32,8 +38,8 @@ loop-again c = search needs
 returns-2 : tie.Need-returns-2 Inv-loop μ-loop
 returns-2 c = search needs
 
-pub line-end-spec : {M : Type 1} → statement M
-line-end-spec =
+pub number-spec : {M : Type 1} → statement M
+number-spec =
     tie.close
     (tie.spec
     Inv-loop
@@ -41,6 +47,8 @@ line-end-spec =
     loop-holds
     shared-slice-read-if1
     returns
+    shared-slice-read-with-digit
+    with-digit-requires
     add-at
     loop-less
     loop-again
