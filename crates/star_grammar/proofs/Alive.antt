@@ -191,9 +191,9 @@ module _ (limit : ℕ) where
   completion-good st x r h n = accepts limit st (completion st x) r h (completion-rest st x h n)
 
 -- what a walk from the start has read begins a whole file
-pub alive : (limit : ℕ) → 1 ≤ limit → (p : List Token) → Each Fixed p → (st : State) (r : Rows) → walk limit start p noRows ≡ go st r
+pub rest-alive : (limit : ℕ) → 1 ≤ limit → (p : List Token) → Each Fixed p → (st : State) (r : Rows) → walk limit start p noRows ≡ go st r
     → (x : Token) → IsName x → (f : File) × (fileYield f ≡ p ++ completion st x) × FileWhole limit f
-alive limit least p f st r e x n =
+rest-alive limit least p f st r e x n =
     let b : Blocks limit (p ++ completion st x) =
     walk-back limit least start st p (completion st x) noRows r f tt e
     (completion-rest limit st x (walk-sane limit least start st p noRows r tt e) n) in

@@ -475,9 +475,9 @@ sound limit least ts f r e =
     (b .blocks, sym (b .yield), b .whole)
 
 -- and its rows are the tree's
-pub sound-rows : (limit : ℕ) → 1 ≤ limit → (ts : List Token) → Each Fixed ts → (r : Rows) → run limit start ts noRows ≡ good r
+pub rows-of-run : (limit : ℕ) → 1 ≤ limit → (ts : List Token) → Each Fixed ts → (r : Rows) → run limit start ts noRows ≡ good r
     → (f : File) × (fileYield f ≡ ts) × FileWhole limit f × (r ≡ rowsOf f)
-sound-rows limit least ts h r e =
+rows-of-run limit least ts h r e =
     let s : (f : File) × (fileYield f ≡ ts) × FileWhole limit f = sound limit least ts h r e in
     let q : run limit start ts noRows ≡ good (rowsOf (s .0)) = rw (s .1) at (complete limit (s .0) (s .2)) in
     (s .0, s .1, s .2, cc)

@@ -17,7 +17,7 @@ use Rattle.star_grammar.specs.Tree.{File, fileYield, FileWhole}
 use Rattle.star_grammar.specs.Tables.{Rows, noRows}
 use Rattle.star_grammar.specs.Machine.{State, start, within, named, header, body, go, walk, good, run}
 use Rattle.star_grammar.specs.Rest.{zeroWord, ending, completion}
-use Rattle.star_grammar.proofs.Alive.{alive, each-ending}
+use Rattle.star_grammar.proofs.Alive.{rest-alive, each-ending}
 use Rattle.star_grammar.proofs.Formed.{each-fixed, formed-completion}
 use Rattle.star_grammar.proofs.Walking.{Walks, walks-first, good-walks}
 use Rattle.star_unique.specs.Repeat.{nothing}
@@ -88,7 +88,7 @@ module _ (limit : ℕ) (least : 1 ≤ limit) (p : List Token) (h : Each WellForm
       let s : (ps : List Placed) × (tokensOf (plainOf (p ++ completion st t)) ≡ Split.accepted ps) × (tokensOnly ps ≡ p ++ completion st t)
       = lex-plain (p ++ completion st t) (each-append WellFormed p (completion st t) .1 (h, formed-completion st t w)) in
       let a : (f : File) × (fileYield f ≡ p ++ completion st t) × FileWhole limit f
-      = alive limit least p (each-fixed p h) st r e t (record { kind6 = refl }) in
+      = rest-alive limit least p (each-fixed p h) st r e t (record { kind6 = refl }) in
       record { tokens = s .0; splits = s .1; are = s .2; tree = a .0; yield = a .1 ∙ sym (s .2); whole = a .2 }
 
 pub walks-shape : (limit : ℕ) → 1 ≤ limit → (p : List Token) → Each WellFormed p → Walks limit start p noRows → BeginsShape limit p

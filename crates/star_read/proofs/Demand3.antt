@@ -82,7 +82,3 @@ module _ (file : List ℕ) (words : Sizes) (ps : List Placed) (f : Fair file wor
 pub place-of-refusal : PlaceOfRefusal
 place-of-refusal file words ps f n place e =
     refused-place file words ps f n place (grammarOf (length file) ps) (verdict ps (length file)) (sym (fair-read file words ps f) ∙ e)
-
--- demand 3 for reading
-pub demand-3 : AcceptedExactly × OneReading × RowsOfReading × PlaceOfRefusal
-demand-3 = (accepted-exactly, one-reading, rows-of-reading, place-of-refusal)

@@ -11,7 +11,7 @@ use Rattle.star_grammar.specs.Tables.{Rows, noRows, rowsOf}
 use Rattle.star_grammar.specs.Reading.{Reading}
 use Rattle.star_grammar.specs.Machine.{start, good, run}
 use Rattle.star_grammar.proofs.Complete.{complete}
-use Rattle.star_grammar.proofs.Sound.{sound-rows}
+use Rattle.star_grammar.proofs.Sound.{rows-of-run}
 use Rattle.star_grammar.proofs.Formed.{each-fixed}
 use Rattle.star_unique.specs.Repeat.{nothing}
 use Rattle.star_unique.proofs.Clean.{Clean, clean-repeat, repeat-clean}
@@ -39,5 +39,5 @@ pub run-reading : (ts : List Token) (rows : Rows) → Each WellFormed ts → run
     → (r : Reading ts) × (rows ≡ rowsOf (r .tree))
 unfolding tree-reading
 run-reading ts rows h e c =
-    let s : (f : File) × (fileYield f ≡ ts) × FileWhole 8 f × (rows ≡ rowsOf f) = sound-rows 8 (omega arith) ts (each-fixed ts h) rows e in
+    let s : (f : File) × (fileYield f ≡ ts) × FileWhole 8 f × (rows ≡ rowsOf f) = rows-of-run 8 (omega arith) ts (each-fixed ts h) rows e in
     (tree-reading ts (s .0) (s .1) (s .2) c, s .3)

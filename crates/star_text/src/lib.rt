@@ -281,7 +281,7 @@ pub fn class_table() -> [u8; 256]
 }
 
 // The class of a byte. This function and those below are called by proved layers only, which lend them the class table.
-pub fn class_of(classes: &[u8; 256], b: u8) -> u8
+fn class_of(classes: &[u8; 256], b: u8) -> u8
     requires { ⌜ Classes (now classes) ⌝ }
     ensures { λ r. ⌜ r ≡ classOf b ⌝ }
 {
@@ -289,7 +289,7 @@ pub fn class_of(classes: &[u8; 256], b: u8) -> u8
 }
 
 // Whether a byte is allowed.
-pub fn is_allowed(classes: &[u8; 256], b: u8) -> bool
+fn is_allowed(classes: &[u8; 256], b: u8) -> bool
     requires { ⌜ Classes (now classes) ⌝ }
     ensures { λ r. ⌜ r ≡ isAllowed b ⌝ }
 {
