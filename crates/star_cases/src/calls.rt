@@ -174,6 +174,6 @@ pub fn run_line(line: &[u8], file: &mut [u8], size: usize, kept: &mut [u32]) -> 
     print::text(line);
     print::expect(next <= file.len());
     run_on(verb, given, rooms::first(file, next), kept);
-    print::line_end();
+    print::text(b"\n");
     next
 }

@@ -14,11 +14,6 @@ pub fn room() -> [u32; 6144]
     [1024; 6144]
 }
 
-// How many words of a table are lent.
-fn size(kept: &[u32], t: u32) -> usize {
-    table::word(kept, 5 + t as usize) as usize
-}
-
 // How many words the rows of a table have.
 fn size_of_rows(kept: &[u32], t: u32) -> usize {
     let rows = table::word(kept, t as usize) as usize;
@@ -27,7 +22,10 @@ fn size_of_rows(kept: &[u32], t: u32) -> usize {
 
 // The words of a table that are lent.
 pub fn lent(kept: &[u32], t: u32) -> &[u32] {
-    table::first(table::behind(kept, t as usize * 1024), size(kept, t))
+    table::first(
+        table::behind(kept, t as usize * 1024),
+        table::word(kept, 5 + t as usize) as usize,
+    )
 }
 
 // The words of the rows of a table.
@@ -65,7 +63,7 @@ pub fn clear(kept: &[u32]) -> bool {
 
 // The words of a table that are lent, to be written.
 fn lend<'a, 'b>(table: &'a mut [u32], kept: &'b [u32], t: u32) -> &'a mut [u32] {
-    let end = table::least(size(kept, t), table.len());
+    let end = table::least(table::word(kept, 5 + t as usize) as usize, table.len());
     &mut table[0..end]
 }
 

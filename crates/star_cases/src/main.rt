@@ -11,8 +11,6 @@ mod table;
 mod tokens;
 mod words;
 
-ghost use Rattle.io.specs.Counts.{Counts};
-
 // Runs a file through the split, reading and writing.
 fn run_file(file: &[u8]) {
     let mut kept = kept::room();
@@ -24,7 +22,7 @@ fn run_file(file: &[u8]) {
         print::text(b"\n  plain ");
         plain::run(file, &kept);
     }
-    print::line_end();
+    print::text(b"\n");
 }
 
 // Runs the file that a line of the data file stands for.
@@ -57,32 +55,24 @@ fn run_lines(lines: &[u8], are_calls: bool, file: &mut [u8], kept: &mut [u32]) {
     }
 }
 
-// Reads a data file, which is to be shorter than its room, and answers how many bytes it has.
-fn read_data(path: &[u8], lines: &mut [u8]) -> usize
-    ensures { λ r. ⌜ Counts r (now (lines .exit)) ⌝ }
-{
+// Runs each line of the data file of that name, which is to be shorter than its room.
+fn run_data(path: &[u8], are_calls: bool) {
     let fd = os::open_read(path);
     if fd < 0 {
         os::fail(path);
-        return 0;
+        return;
     }
-    let n = io::read_full(fd, lines);
-    libc::close(fd);
-    print::expect(n < lines.len());
-    n
-}
-
-// Runs each line of the data file of that name.
-fn run_data(path: &[u8], are_calls: bool) {
     let mut lines = io::large_buffer();
+    let n = io::read_full(fd, &mut lines);
+    libc::close(fd);
+    print::expect(n < 65536);
     let mut file = rooms::room();
     let mut kept = kept::room();
-    let n = read_data(path, &mut lines);
     run_lines(&lines[..n], are_calls, &mut file, &mut kept);
 }
 
 // Runs the first bytes of a long file, as many as are counted.
-fn run_first(file: &[u8], count: u32) {
+fn run_first(file: &[u8; 1048577], count: u32) {
     print::number(count);
     print::text(b" bytes: data_a _x vv..");
     run_file(rooms::first(file, count as usize));

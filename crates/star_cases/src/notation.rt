@@ -48,14 +48,15 @@ fn symbol_size(line: &[u8], at: usize) -> usize
 fn value(symbol: &[u8]) -> u8 {
     let size = symbol.len();
     if size == 4 {
-        digit(symbol[2]) * 16 + digit(symbol[3])
-    } else if size == 2 {
-        escape(symbol[1])
-    } else if size == 1 {
-        symbol[0]
-    } else {
-        0
+        return digit(symbol[2]) * 16 + digit(symbol[3]);
     }
+    if size == 2 {
+        return escape(symbol[1]);
+    }
+    if size == 1 {
+        return symbol[0];
+    }
+    0
 }
 
 // Writes a byte at a place of `file`, if it fits.

@@ -11,11 +11,6 @@ pub fn bar() {
     text(b" | ");
 }
 
-// Ends a line.
-pub fn line_end() {
-    text(b"\n");
-}
-
 // Writes a number.
 pub fn number(n: u32) {
     io::print_decimal(STDOUT_FILENO, n as u64);

@@ -4,11 +4,9 @@ use crate::print;
 use crate::table;
 use star_read::Reading;
 
-// Prints the rows of a table, after a sign that parts it from the table before.
+// Prints the rows of a table after those of the table before.
 fn print_table(kept: &[u32], t: u32) {
-    if t != 1 {
-        print::text(b" ; ");
-    }
+    print::text(b" ; ");
     print::rows(kept::rows(kept, t), if t == 3 { 4 } else { 3 });
 }
 
@@ -17,7 +15,8 @@ fn print_tables(kept: &[u32]) {
     print::bar();
     print::rows(kept::counts(kept), 5);
     print::bar();
-    let mut t = 1;
+    print::rows(kept::rows(kept, 1), 3);
+    let mut t = 2;
     while t <= 5 {
         print_table(kept, t);
         t += 1;

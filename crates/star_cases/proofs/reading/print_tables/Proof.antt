@@ -22,6 +22,12 @@ rows-requires c κs = search needs
 bar-requires-2 : tie.Need-bar-requires-2 Inv-loop μ-loop
 bar-requires-2 c κs = search needs
 
+rows-requires-2 : tie.Need-rows-requires-2 Inv-loop μ-loop
+rows-requires-2 c κs = search needs
+
+rows-requires-3 : tie.Need-rows-requires-3 Inv-loop μ-loop
+rows-requires-3 c κs = search needs
+
 loop-holds : tie.Need-loop-holds Inv-loop μ-loop
 loop-holds c = search needs
 
@@ -50,6 +56,8 @@ print-tables-spec =
     counts-requires
     rows-requires
     bar-requires-2
+    rows-requires-2
+    rows-requires-3
     loop-holds
     print-table-requires
     add-t
