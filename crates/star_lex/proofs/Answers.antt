@@ -4,7 +4,8 @@ use mathlib.Core.Bool.{true}
 use mathlib.Core.List.{List}
 use Prim.Native.Nat.{ℕ, _/_, _≤_, _<_}
 use native.Mathlib.Omega.{arith}
-use borrow.Author.Tests.{lt-ltb, le-ltb, le-leb, lt-leb}
+use borrow.Author.Tests.{lt-ltb, le-ltb, le-leb, lt-leb, ltb-true}
+use lib.Dec.{ltb}
 use lib.ListN.{length}
 use Rattle.star_text.specs.Bytes.{firstRefused}
 use Rattle.star_rows.proofs.Stored.{room}
@@ -12,7 +13,8 @@ use Rattle.star_lex.specs.Tokens.{Placed}
 use Rattle.star_lex.specs.Split.{Split, refused, accepted, split, tokensOf}
 use Rattle.star_lex.specs.Found.{fitting, tokensIn, answerOf}
 use Rattle.star_lex.specs.declared.Tokens.{Tokens}
-use Rattle.star_lex.proofs.Splitting.{split-refused}
+use Rattle.star_lex.proofs.Cases.{cond-cases}
+use Rattle.star_lex.proofs.Splitting.{Faulty, split-refused}
 
 module _ (file : List ℕ) (words : ℕ) where
   pub tokens-too-long : 1048576 < length file → tokensIn file words ≡ refused 1 0
@@ -26,6 +28,14 @@ module _ (file : List ℕ) (words : ℕ) where
   pub tokens-split : length file ≤ 1048576 → length file ≤ firstRefused file → tokensIn file words ≡ fitting words (split 0 true 0 file)
   unfolding tokensIn tokensOf
   tokens-split h k = rw (le-leb (length file) 1048576 h, le-ltb (firstRefused file) (length file) k)
+
+-- a file that does not split is refused with 2 to 6, at one of its bytes
+pub tokens-faulty : (file : List ℕ) (n place : ℕ) → tokensOf file ≡ refused n place → (2 ≤ n) × (n ≤ 6) × (place < length file)
+unfolding tokensOf
+tokens-faulty file n place e =
+    cond-cases (ltb (firstRefused file) (length file)) _ _ (refused n place) e
+    (λ d h. let a : 2 ≡ n = cc in let b : firstRefused file ≡ place = cc in (omega arith, omega arith, omega (arith, ltb-true)))
+    (λ d h. let f : Faulty 0 (length file) n place = split-refused 0 true 0 file n place h in (omega arith, omega arith, omega arith))
 
 -- an answer tells the split
 pub answer-refused : (s : Split) (r : Tokens) → r ≡ answerOf s → (r .refusal ≡ 0 → ⊥) → s ≡ refused (r .refusal) (r .place)

@@ -132,21 +132,32 @@ unfolding before
 before-refused p (refused m q) n place e = e
 before-refused p (accepted ps) n place e = impossible cc
 
-enter-refused : (at size : ℕ) (l : Lexeme) → Within size l → (n place : ℕ) {rest : Split}
-    → (rest ≡ refused n place → (3 ≤ n) × (n ≤ 6)) → enter at l rest ≡ refused n place → (3 ≤ n) × (n ≤ 6)
-unfolding enter
-enter-refused at size (gap more) w n place f e = f e
-enter-refused at size (token more t) w n place {rest} f e = f (before-refused _ rest n place e)
-enter-refused at size (faulty m) w n place f e = let q : m ≡ n = cc in (omega arith, omega arith)
+-- a refusal of 3 to 6 at one of the places from here on
+abbrev pub Faulty : (at size n place : ℕ) → Type 0
+Faulty at size n place = (3 ≤ n) × (n ≤ 6) × (at ≤ place) × (place < at + size)
 
--- the split refuses with 3 to 6 alone
-pub split-refused : (skip : ℕ) (line : Bool) (at : ℕ) (bs : List ℕ) (n place : ℕ) → split skip line at bs ≡ refused n place → (3 ≤ n) × (n ≤ 6)
+later-faulty : (at size n place : ℕ) → Faulty (suc at) size n place → Faulty at (suc size) n place
+later-faulty at size n place h = (h .0, h .1, omega arith, omega arith)
+
+enter-refused : (at size : ℕ) (l : Lexeme) → Within size l → (n place : ℕ) {rest : Split}
+    → (rest ≡ refused n place → Faulty (suc at) size n place) → enter at l rest ≡ refused n place → Faulty at (suc size) n place
+unfolding enter
+enter-refused at size (gap more) w n place f e = later-faulty at size n place (f e)
+enter-refused at size (token more t) w n place {rest} f e = later-faulty at size n place (f (before-refused _ rest n place e))
+enter-refused at size (faulty m) w n place f e =
+    let q : m ≡ n = cc in
+    let r : at ≡ place = cc in
+    (omega arith, omega arith, omega arith, omega arith)
+
+-- the split refuses with 3 to 6 alone, at a byte of the file
+pub split-refused : (skip : ℕ) (line : Bool) (at : ℕ) (bs : List ℕ) (n place : ℕ) → split skip line at bs ≡ refused n place
+    → Faulty at (length bs) n place
 unfolding split
 split-refused skip line at [] n place e = impossible cc
 split-refused zero line at (b ∷ bs) n place e =
     enter-refused at (length bs) (lexeme line b bs) (lexeme-within line b bs) n place
     (split-refused (moreOf (lexeme line b bs)) (isTerminate b) (suc at) bs n place) e
-split-refused (suc skip) line at (b ∷ bs) n place e = split-refused skip false (suc at) bs n place e
+split-refused (suc skip) line at (b ∷ bs) n place e = later-faulty at (length bs) n place (split-refused skip false (suc at) bs n place e)
 
 -- what is found tells the lexeme
 gap-of : (at next : ℕ) (l : Lexeme) → foundAt at l ≡ Gap next → (more : ℕ) × (l ≡ gap more) × (next ≡ at + 1 + more)

@@ -2,7 +2,7 @@
 -- token that, with those before it, begins no file with a reading, or at its end. The machine takes a row of tokens as far as the row begins
 -- a file.
 use mathlib.Core.Path.{_≡_, refl, sym, ap, _∙_}
-use mathlib.Core.List.{List, [], _∷_, append-nil}
+use mathlib.Core.List.{List}
 use Prim.Native.Nat.{ℕ}
 use native.Mathlib.Omega.{arith}
 use borrow.Author.Tests.{le-ltb}
@@ -17,18 +17,18 @@ use Rattle.star_grammar.specs.Tables.{Rows, noRows, rowsOf}
 use Rattle.star_grammar.specs.Reading.{Reading}
 use Rattle.star_grammar.specs.Machine.{start, good, run}
 use Rattle.star_grammar.proofs.Unambiguous.{unambiguous}
-use Rattle.star_grammar.proofs.Walking.{walks-first}
 use Rattle.star_unique.specs.Repeat.{nothing}
 use Rattle.star_unique.proofs.Clean.{Clean, clean-repeat}
 use Rattle.star_read.specs.Read.{Outcome, refused, accepted, Sizes, tokensOnly, decide, grammarOf, fitting, after, readOf}
-use Rattle.star_read.specs.Demands.{Fair, FirstBad, AcceptedExactly, OneReading, RowsOfReading, PlaceOfRefusal}
+use Rattle.star_read.specs.Demands.{Fair, FirstBad, Bad, AcceptedExactly, OneReading, RowsOfReading, PlaceOfRefusal}
 use Rattle.star_read.proofs.Readings.{reading-run, reading-clean, run-reading}
 use Rattle.star_read.proofs.Verdict.{Verdict, verdict}
-use Rattle.star_read.proofs.Fitting.{refused≢accepted, fair-read, tokens-accepted, room-fits, fits-accepted}
-use Rattle.star_read.proofs.FairFile.{taken-begins, halted-begins, part-begins, accepted-fits}
+use Rattle.star_read.proofs.Fitting.{refused≢accepted, tokenized-read, tokens-accepted, room-fits, fits-accepted}
+use Rattle.star_read.proofs.FairFile.{accepted-fits}
+use Rattle.star_read.proofs.FirstBad.{verdict-bad}
 
 -- a row that the grammar accepts
-accepted-verdict : (ps qs : List Placed) (size : ℕ) (rows : Rows) (o : Outcome) → Verdict ps size o → o ≡ accepted qs rows
+pub accepted-verdict : (ps qs : List Placed) (size : ℕ) (rows : Rows) (o : Outcome) → Verdict ps size o → o ≡ accepted qs rows
     → (ps ≡ qs) × (run 8 start (tokensOnly ps) noRows ≡ good rows) × Clean nothing (tokensOnly ps)
 accepted-verdict ps qs size rows o (Verdict.reads u e c) q = ((cc), e ∙ ap good (let k : u ≡ rows = cc in k), c)
 accepted-verdict ps qs size rows o (Verdict.repeats place p t q e l c w k) d = impossible cc
@@ -36,7 +36,7 @@ accepted-verdict ps qs size rows o (Verdict.halts n place p t q e l c st r w k) 
 accepted-verdict ps qs size rows o (Verdict.ends n place i l c st r w k) d = impossible cc
 
 -- a reading makes the grammar accept
-reading-accepted : (ps : List Placed) (size : ℕ) (r : Reading (tokensOnly ps)) → grammarOf size ps ≡ accepted ps (rowsOf (r .tree))
+pub reading-accepted : (ps : List Placed) (size : ℕ) (r : Reading (tokensOnly ps)) → grammarOf size ps ≡ accepted ps (rowsOf (r .tree))
 unfolding grammarOf decide
 reading-accepted ps size r =
     rw (reading-run (tokensOnly ps) r, clean-repeat nothing (tokensOnly ps) (reading-clean (tokensOnly ps) r), length-map, le-ltb (length ps) (length ps) (omega arith))
@@ -63,22 +63,23 @@ rows-of-reading file words ps rows e = rows-after file words ps rows _ refl e
 pub accepted-exactly : AcceptedExactly
 accepted-exactly file words ps f = (
   λ a. rows-of-reading file words ps (a .0) (a .1) .1,
-  λ r. (rowsOf (r .tree), fair-read file words ps f ∙ ap (fitting words) (reading-accepted ps (length file) r) ∙ room-fits words ps (rowsOf (r .tree)) (f .rooms r)),
+  λ r. (rowsOf (r .tree), tokenized-read file words ps (f .tokenized) ∙ ap (fitting words) (reading-accepted ps (length file) r) ∙ room-fits words ps (rowsOf (r .tree)) (f .rooms r)),
 )
 
--- the verdict of a refused file tells its first bad token
-module _ (file : List ℕ) (words : Sizes) (ps : List Placed) (f : Fair file words ps) where
-  refused-place : (n place : ℕ) (o : Outcome) → Verdict ps (length file) o → fitting words o ≡ refused n place → FirstBad file ps place
-  unfolding fitting
-  refused-place n place o (Verdict.reads rows e c) d = absurd (refused≢accepted n place ps rows (sym d ∙ accepted-fits file words ps f rows e c))
-  refused-place n place o (Verdict.repeats i p t q e l c w k) d =
-      FirstBad.token p t q e (let h : i ≡ place = cc in sym h ∙ l)
-      (part-begins file words ps f p (t ∷ q) e (walks-first 8 (tokensOnly p) (t .token ∷ []) start noRows w) c) (taken-begins p t k)
-  refused-place n place o (Verdict.halts m i p t q e l c st r w k) d =
-      FirstBad.token p t q e (let h : i ≡ place = cc in sym h ∙ l) (part-begins file words ps f p (t ∷ q) e (st, r, w) c) (halted-begins m p t st r w k)
-  refused-place n place o (Verdict.ends m i j l c st r w k) d =
-      FirstBad.end (let h : i ≡ place = cc in sym h ∙ l) (part-begins file words ps f ps [] (sym (append-nil ps)) (st, r, w) c)
+-- where there is room, a refused file has a first bad token
+pub fair-bad : (file : List ℕ) (words : Sizes) (ps : List Placed) → Fair file words ps → (n place : ℕ) → readOf file words ≡ refused n place → Bad file ps n place
+unfolding fitting
+fair-bad file words ps f n place e = by (grammarOf (length file) ps) (verdict ps (length file)) (sym (tokenized-read file words ps (f .tokenized)) ∙ e)
+  where
+    by : (o : Outcome) → Verdict ps (length file) o → fitting words o ≡ refused n place → Bad file ps n place
+    by (refused m i) v d = verdict-bad file words ps (f .tokenized) n place (refused m i) v d
+    by (accepted qs rows) v d =
+        let k : (ps ≡ qs) × (run 8 start (tokensOnly ps) noRows ≡ good rows) × Clean nothing (tokensOnly ps) = accepted-verdict ps qs (length file) rows _ v refl in
+        absurd (refused≢accepted n place ps rows (sym (rw (← (k .0)) at d) ∙ accepted-fits file words ps f rows (k .1) (k .2)))
 
 pub place-of-refusal : PlaceOfRefusal
-place-of-refusal file words ps f n place e =
-    refused-place file words ps f n place (grammarOf (length file) ps) (verdict ps (length file)) (sym (fair-read file words ps f) ∙ e)
+place-of-refusal file words ps f n place e = at (fair-bad file words ps f n place e)
+  where
+    at : {n place : ℕ} → Bad file ps n place → FirstBad file ps place
+    at (Bad.token n p t q d b k h) = FirstBad.token p t q d refl b k
+    at (Bad.end n b h) = FirstBad.end refl b

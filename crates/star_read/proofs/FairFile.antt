@@ -20,7 +20,7 @@ use Rattle.star_unique.specs.Seen.{takesAll}
 use Rattle.star_unique.proofs.Clean.{Clean}
 use Rattle.star_unique.proofs.First.{taken-unclean}
 use Rattle.star_read.specs.Read.{accepted, Sizes, tokensOnly, fitting}
-use Rattle.star_read.specs.Demands.{Begins, Fair}
+use Rattle.star_read.specs.Demands.{Begins, Tokenized, Fair}
 use Rattle.star_read.proofs.Readings.{run-reading}
 use Rattle.star_read.proofs.Begin.{begins-walks, begins-clean, walks-begins}
 use Rattle.star_read.proofs.Fitting.{room-fits}
@@ -35,7 +35,7 @@ halted-begins n p t st r w k b =
     halted 8 start st (tokensOnly p) (t .token) noRows r n w k (rw map-append at (begins-walks (tokensOnly (p ++ (t ∷ []))) b))
 
 -- a first part of the tokens of a file
-module _ (file : List ℕ) (words : Sizes) (ps : List Placed) (f : Fair file words ps) where
+module _ (file : List ℕ) (words : Sizes) (ps : List Placed) (f : Tokenized file words ps) where
   pub part-formed : (p q : List Placed) → ps ≡ p ++ q → Each WellFormed (tokensOnly p)
   part-formed p q e =
       each-append WellFormed (tokensOnly p) (tokensOnly q) .0 (rw (e, map-append) at (split-well-formed file ps (f .splits))) .0
@@ -47,9 +47,14 @@ module _ (file : List ℕ) (words : Sizes) (ps : List Placed) (f : Fair file wor
   pub part-begins : (p q : List Placed) → ps ≡ p ++ q → Walks 8 start (tokensOnly p) noRows → Clean nothing (tokensOnly p) → Begins (tokensOnly p)
   part-begins p q e = walks-begins (tokensOnly p) (part-formed p q e) (part-small p q e)
 
-  -- what the grammar accepts has room
-  pub accepted-fits : (rows : Rows) → run 8 start (tokensOnly ps) noRows ≡ good rows → Clean nothing (tokensOnly ps)
-      → fitting words (accepted ps rows) ≡ accepted ps rows
-  accepted-fits rows e c =
-      let r : (r : Reading (tokensOnly ps)) × (rows ≡ rowsOf (r .tree)) = run-reading (tokensOnly ps) rows (split-well-formed file ps (f .splits)) e c in
-      room-fits words ps rows (rw (r .1) (f .rooms (r .0)))
+-- what the grammar accepts has a reading, with its rows
+pub accepted-reading : (file : List ℕ) (words : Sizes) (ps : List Placed) → Tokenized file words ps → (rows : Rows)
+    → run 8 start (tokensOnly ps) noRows ≡ good rows → Clean nothing (tokensOnly ps) → (r : Reading (tokensOnly ps)) × (rows ≡ rowsOf (r .tree))
+accepted-reading file words ps f rows = run-reading (tokensOnly ps) rows (split-well-formed file ps (f .splits))
+
+-- and, in a fair file, room
+pub accepted-fits : (file : List ℕ) (words : Sizes) (ps : List Placed) → Fair file words ps → (rows : Rows)
+    → run 8 start (tokensOnly ps) noRows ≡ good rows → Clean nothing (tokensOnly ps) → fitting words (accepted ps rows) ≡ accepted ps rows
+accepted-fits file words ps f rows e c =
+    let r : (r : Reading (tokensOnly ps)) × (rows ≡ rowsOf (r .tree)) = accepted-reading file words ps (f .tokenized) rows e c in
+    room-fits words ps rows (rw (r .1) (f .rooms (r .0)))

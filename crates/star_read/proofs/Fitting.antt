@@ -15,15 +15,15 @@ use Rattle.star_lex.specs.Found as Found
 use Rattle.star_lex.proofs.Cases.{impossible, cond-cases}
 use Rattle.star_grammar.specs.Tables.{Rows}
 use Rattle.star_read.specs.Read.{Outcome, refused, accepted, Sizes, grammarOf, fitting, after, readOf}
-use Rattle.star_read.specs.Demands.{Room, Fair}
+use Rattle.star_read.specs.Demands.{Room, Tokenized}
 
 pub refused≢accepted : (n place : ℕ) (ps : List Placed) (rows : Rows) → refused n place ≡ accepted ps rows → ⊥
 refused≢accepted n place ps rows e = impossible cc
 
-pub fair-read : (file : List ℕ) (words : Sizes) (ps : List Placed) → Fair file words ps
+pub tokenized-read : (file : List ℕ) (words : Sizes) (ps : List Placed) → Tokenized file words ps
     → readOf file words ≡ fitting words (grammarOf (length file) ps)
 unfolding readOf after tokensIn Found.fitting
-fair-read file words ps f =
+tokenized-read file words ps f =
     rw (le-leb (length file) 1048576 (f .small), f .splits, le-leb (length ps * 3) (words .tokens) (f .room))
 
 -- tokens that fit are those of the file

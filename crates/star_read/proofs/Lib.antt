@@ -3,9 +3,12 @@ pub mod Begin
 pub mod Verdict
 pub mod Fitting
 pub mod FairFile
-pub mod Demand3
 pub mod Since
 pub mod Numbers
+pub mod FirstBad
+pub mod Demand3
+pub mod Settled
+pub mod Demand1
 pub mod RefusalNumber
 pub mod Known
 pub mod Judging

@@ -51,15 +51,19 @@ sizes t = record {
 abbrev pub words : (tokens sets names packets values : ℕ) → Sizes
 words tokens sets names packets values = record { tokens = tokens; sets = sets; names = names; packets = packets; values = values }
 
--- words after the last row are 0; on a refusal every word of every table is 0
-unfoldable pub tablesOf : Outcome → Sizes → Tables
-tablesOf (refused n place) words = record {
+-- tables of so many words, each 0
+abbrev pub zeroTables : Sizes → Tables
+zeroTables words = record {
   tokens = replicate (words .tokens) 0;
   sets = replicate (words .sets) 0;
   names = replicate (words .names) 0;
   packets = replicate (words .packets) 0;
   values = replicate (words .values) 0;
 }
+
+-- words after the last row are 0; on a refusal every word of every table is 0
+unfoldable pub tablesOf : Outcome → Sizes → Tables
+tablesOf (refused n place) words = zeroTables words
 tablesOf (accepted ps rows) words = record {
   tokens = holding tokenRow ps (words .tokens);
   sets = holding setWords (rows .sets) (words .sets);

@@ -1,8 +1,8 @@
 -- What is demanded of reading: statements alone, over readings (star_grammar's specs/Reading.antt) and the split of a file.
 use mathlib.Core.Path.{_≡_}
-use mathlib.Core.Logic.{_↔_}
+use mathlib.Core.Logic.{_⊎_, _↔_}
 use mathlib.Core.List.{List, [], _∷_, _++_}
-use Prim.Native.Nat.{ℕ, _*_, _≤_}
+use Prim.Native.Nat.{ℕ, _*_, _≤_, _<_}
 use lib.ListN.{length}
 use Rattle.star_lex.specs.Tokens.{Token, Placed, Each}
 use Rattle.star_lex.specs.Split.{tokensOf}
@@ -10,7 +10,9 @@ use Rattle.star_lex.specs.Split as Split
 use Rattle.star_grammar.specs.Tree.{File, fileYield, FileWhole, IsName, IsValue}
 use Rattle.star_grammar.specs.Tables.{Rows, rowsOf}
 use Rattle.star_grammar.specs.Reading.{Reading}
-use Rattle.star_read.specs.Read.{refused, accepted, Sizes, tokensOnly, readOf}
+use Rattle.star_read.specs.Answer.{answerOf, Tables, zeroTables, tablesOf}
+use Rattle.star_read.specs.declared.Reading as Answer
+use Rattle.star_read.specs.Read.{Outcome, refused, accepted, Sizes, tokensOnly, readOf}
 
 -- a row of tokens begins a file, of any length, that splits into tokens and has a reading, when the file's first tokens have the same kinds
 -- and contents
@@ -29,11 +31,15 @@ pub record Room (words : Sizes) (rows : Rows) : Type 0 where
   pub packets : length (rows .packets) * 3 ≤ words .packets
   pub values : length (rows .values) * 3 ≤ words .values
 
--- a file within the size limit that splits into tokens, and tables with room for those tokens and, if it has a reading, for its rows
-pub record Fair (file : List ℕ) (words : Sizes) (ps : List Placed) : Type 0 where
+-- a file within the size limit that splits into these tokens, and a table 1 with room for them
+pub record Tokenized (file : List ℕ) (words : Sizes) (ps : List Placed) : Type 0 where
   pub small : length file ≤ 1048576
   pub splits : tokensOf file ≡ Split.accepted ps
   pub room : length ps * 3 ≤ words .tokens
+
+-- such a file, and tables 2 to 5 with room for the rows of its reading, if it has one
+pub record Fair (file : List ℕ) (words : Sizes) (ps : List Placed) : Type 0 where
+  pub tokenized : Tokenized file words ps
   pub rooms : (r : Reading (tokensOnly ps)) → Room words (rowsOf (r .tree))
 
 -- a token of the file that, with those before it, begins no file, while those before it do; or, if there is none, the file's length
@@ -106,3 +112,68 @@ RefusalNumber = (file : List ℕ) (words : Sizes) (ps : List Placed) → Fair fi
     → ((p : List Placed) (t : Placed) (q : List Placed) → ps ≡ p ++ (t ∷ q) → Begins (tokensOnly p)
     → (Begins (tokensOnly (p ++ (t ∷ []))) → ⊥) → NumberAt (tokensOnly p) (t .token) n)
     × (Begins (tokensOnly ps) → NumberAtEnd (tokensOnly ps) n)
+
+-- 8 to 12 exclude one another, at a token and at the end
+abbrev pub NumbersExclude : Type 0
+NumbersExclude = ((p : List Token) (t : Token) (m n : ℕ) → NumberAt p t m → NumberAt p t n → m ≡ n)
+    × ((p : List Token) (m n : ℕ) → NumberAtEnd p m → NumberAtEnd p n → m ≡ n)
+
+-- refusal and place where a file has no reading: of the first token that, with those before it, begins no file, or of the file's end
+pub data Bad (file : List ℕ) (ps : List Placed) : (number place : ℕ) → Type 0 where
+  token : (n : ℕ) (p : List Placed) (t : Placed) (q : List Placed) → ps ≡ p ++ (t ∷ q) → Begins (tokensOnly p)
+      → (Begins (tokensOnly (p ++ (t ∷ []))) → ⊥) → NumberAt (tokensOnly p) (t .token) n → Bad file ps n (t .at)
+  end : (n : ℕ) → Begins (tokensOnly ps) → NumberAtEnd (tokensOnly ps) n → Bad file ps n (length file)
+
+-- the lowest of tables 2 to 5 that is too short for its rows
+pub data Short (words : Sizes) (rows : Rows) : (table : ℕ) → Type 0 where
+  sets : words .sets < length (rows .sets) * 3 → Short words rows 2
+  names : length (rows .sets) * 3 ≤ words .sets → words .names < length (rows .names) * 4 → Short words rows 3
+  packets : length (rows .sets) * 3 ≤ words .sets → length (rows .names) * 4 ≤ words .names → words .packets < length (rows .packets) * 3
+      → Short words rows 4
+  values : length (rows .sets) * 3 ≤ words .sets → length (rows .names) * 4 ≤ words .names → length (rows .packets) * 3 ≤ words .packets
+      → words .values < length (rows .values) * 3 → Short words rows 5
+
+-- what reading gives, of any file and any tables: the refusals in order of checking, or the rows of the reading
+pub data Settles (file : List ℕ) (words : Sizes) : Outcome → Type 0 where
+  over-size : 1048576 < length file → Settles file words (refused 1 0)
+  unsplit : (n place : ℕ) → length file ≤ 1048576 → tokensOf file ≡ Split.refused n place → Settles file words (refused n place)
+  no-token-room : (ps : List Placed) → length file ≤ 1048576 → tokensOf file ≡ Split.accepted ps → words .tokens < length ps * 3
+      → Settles file words (refused 7 1)
+  no-reading : (ps : List Placed) (n place : ℕ) → Tokenized file words ps → (Reading (tokensOnly ps) → ⊥) → Bad file ps n place
+      → Settles file words (refused n place)
+  no-room : (ps : List Placed) (table : ℕ) → Tokenized file words ps → (r : Reading (tokensOnly ps)) → Short words (rowsOf (r .tree)) table
+      → Settles file words (refused 7 table)
+  reads : (ps : List Placed) → Tokenized file words ps → (r : Reading (tokensOnly ps)) → Room words (rowsOf (r .tree))
+      → Settles file words (accepted ps (rowsOf (r .tree)))
+
+-- reading is settled for every file and any tables
+abbrev pub ReadingSettled : Type 0
+ReadingSettled = (file : List ℕ) (words : Sizes) → Settles file words (readOf file words)
+
+-- and there is one outcome
+abbrev pub OneOutcome : Type 0
+OneOutcome = (file : List ℕ) (words : Sizes) (o u : Outcome) → Settles file words o → Settles file words u → o ≡ u
+
+-- the numbers that reading gives, each with the places that it may have in a file of that many bytes
+pub data Numbered (size : ℕ) : (number place : ℕ) → Type 0 where
+  over-size : Numbered size 1 0
+  byte : (n place : ℕ) → 2 ≤ n → n ≤ 6 → place < size → Numbered size n place
+  table : (place : ℕ) → 1 ≤ place → place ≤ 5 → Numbered size 7 place
+  token : (n place : ℕ) → 8 ≤ n → n ≤ 12 → place < size → Numbered size n place
+  end : (n : ℕ) → (n ≡ 8) ⊎ (n ≡ 10) → Numbered size n size
+
+-- a file within the size limit that splits into tokens which have a reading
+pub record HasReading (file : List ℕ) : Type 0 where
+  pub small : length file ≤ 1048576
+  pub tokens : List Placed
+  pub splits : tokensOf file ≡ Split.accepted tokens
+  pub reading : Reading (tokensOnly tokens)
+
+-- demand 1, of reading: its answer is 0 and 0 only with a reading; else one of the numbers with its place, no rows, and every word 0
+pub data ReadAnswer (file : List ℕ) (words : Sizes) : Answer.Reading → Tables → Type 0 where
+  acceptance : (r : Answer.Reading) (t : Tables) → r .refusal ≡ 0 → r .place ≡ 0 → HasReading file → ReadAnswer file words r t
+  refusal : (n place : ℕ) → Numbered (length file) n place
+      → ReadAnswer file words (record { refusal = n; place = place; tokens = 0; sets = 0; names = 0; packets = 0; values = 0 }) (zeroTables words)
+
+abbrev pub ReadAnswers : Type 0
+ReadAnswers = (file : List ℕ) (words : Sizes) → ReadAnswer file words (answerOf (readOf file words)) (tablesOf (readOf file words) words)

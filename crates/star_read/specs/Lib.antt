@@ -1,4 +1,4 @@
 pub mod Read
-pub mod Demands
 pub mod Answer
+pub mod Demands
 pub mod Known

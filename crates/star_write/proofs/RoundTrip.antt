@@ -39,9 +39,11 @@ module _ (plain : List ℕ) (words : Sizes) (ps qs : List Placed) (r : Reading (
       → Room words (rowsOf (r .tree)) → readOf plain words ≡ Read.accepted qs (rowsOf (r .tree))
   reads-same small splits e table rooms =
       let fair : Fair plain words qs = record {
-        small = small;
-        splits = splits;
-        room = omega (arith, length-map qs (λ p. p .token), length-map ps (λ p. p .token), ap length e);
+        tokenized = record {
+          small = small;
+          splits = splits;
+          room = omega (arith, length-map qs (λ p. p .token), length-map ps (λ p. p .token), ap length e);
+        };
         rooms = λ s. rw (same-rows e s) rooms;
       } in
       let a = accepted-exactly plain words qs fair .1 (moved (sym e) r) in

@@ -1,0 +1,84 @@
+-- Demand 1, of reading: every case of what reading gives has its number and its place in range, and 0 has a reading.
+use mathlib.Core.Path.{_≡_, refl}
+use mathlib.Core.List.{List, _∷_, _++_}
+use mathlib.Core.Logic.{_⊎_, inl, inr}
+use Prim.Native.Nat.{ℕ, _≤_, _<_}
+use native.Mathlib.Omega.{arith}
+use lib.ListN.{length}
+use Rattle.star_lex.specs.Tokens.{Token, Placed}
+use Rattle.star_lex.specs.Split.{tokensOf}
+use Rattle.star_lex.specs.Split as Split
+use Rattle.star_lex.proofs.Answers.{tokens-faulty}
+use Rattle.star_lex.proofs.Cases.{impossible}
+use Rattle.star_lex.proofs.Each.{each-append}
+use Rattle.star_lex.proofs.Parts.{PartOf, split-parts}
+use Rattle.star_grammar.specs.Tables.{Rows}
+use Rattle.star_read.specs.Read.{Outcome, refused, accepted, Sizes, readOf}
+use Rattle.star_read.specs.Answer.{answerOf, tablesOf}
+use Rattle.star_read.specs.Demands.{NumberAt, NumberAtEnd, Bad, Short, Settles, Numbered, HasReading, ReadAnswer, ReadAnswers}
+use Rattle.star_read.proofs.Settled.{reading-settled}
+
+token-number : {p : List Token} {t : Token} {n : ℕ} → NumberAt p t n → (8 ≤ n) × (n ≤ 12)
+token-number (NumberAt.global k) = (omega arith, omega arith)
+token-number (NumberAt.taken k b) = (omega arith, omega arith)
+token-number (NumberAt.deep k f l b) = (omega arith, omega arith)
+token-number (NumberAt.packet k f v w) = (omega arith, omega arith)
+token-number (NumberAt.other k f o) = (omega arith, omega arith)
+
+end-number : {p : List Token} {n : ℕ} → NumberAtEnd p n → (n ≡ 8) ⊎ (n ≡ 10)
+end-number (NumberAtEnd.packet v w) = inr refl
+end-number (NumberAtEnd.other o) = inl refl
+
+table-number : {words : Sizes} {rows : Rows} {table : ℕ} → Short words rows table → (1 ≤ table) × (table ≤ 5)
+table-number (Short.sets a) = (omega arith, omega arith)
+table-number (Short.names a b) = (omega arith, omega arith)
+table-number (Short.packets a b c) = (omega arith, omega arith)
+table-number (Short.values a b c d) = (omega arith, omega arith)
+
+-- a token of a file begins within it
+token-within : (file : List ℕ) (ps p : List Placed) (t : Placed) (q : List Placed) → tokensOf file ≡ Split.accepted ps → ps ≡ p ++ (t ∷ q) → t .at < length file
+token-within file ps p t q s e = each-append (PartOf file) p (t ∷ q) .0 (rw e at (split-parts file ps s)) .1 .0 .first
+
+bad-number : (file : List ℕ) (ps : List Placed) (n place : ℕ) → tokensOf file ≡ Split.accepted ps → Bad file ps n place → Numbered (length file) n place
+bad-number file ps _ _ s (Bad.token n p t q e b k h) =
+    let m : (8 ≤ n) × (n ≤ 12) = token-number h in
+    Numbered.token n (t .at) (m .0) (m .1) (token-within file ps p t q s e)
+bad-number file ps _ _ s (Bad.end n b h) = Numbered.end n (end-number h)
+
+module _ (file : List ℕ) (words : Sizes) where
+  -- a refusal has one of the numbers, with its place
+  pub refused-numbered : (n place : ℕ) → readOf file words ≡ refused n place → Numbered (length file) n place
+  refused-numbered n place = by (readOf file words) (reading-settled file words)
+    where
+      same : {m i : ℕ} → Numbered (length file) m i → refused m i ≡ refused n place → Numbered (length file) n place
+      same {m} {i} k d = let a : m ≡ n = cc in let b : i ≡ place = cc in rw (← a, ← b) k
+
+      by : (o : Outcome) → Settles file words o → o ≡ refused n place → Numbered (length file) n place
+      by _ (Settles.over-size h) d = same Numbered.over-size d
+      by _ (Settles.unsplit m i small e) d =
+          let f : (2 ≤ m) × (m ≤ 6) × (i < length file) = tokens-faulty file m i e in
+          same (Numbered.byte m i (f .0) (f .1) (f .2)) d
+      by _ (Settles.no-token-room ps small e h) d = same (Numbered.table 1 (omega arith) (omega arith)) d
+      by _ (Settles.no-reading ps m i f none b) d = same (bad-number file ps m i (f .splits) b) d
+      by _ (Settles.no-room ps table f r h) d = let k : (1 ≤ table) × (table ≤ 5) = table-number h in same (Numbered.table table (k .0) (k .1)) d
+      by _ (Settles.reads ps f r h) d = impossible cc
+
+  -- what is accepted has a reading
+  pub accepted-has : (ps : List Placed) (rows : Rows) → readOf file words ≡ accepted ps rows → HasReading file
+  accepted-has ps rows = by (readOf file words) (reading-settled file words)
+    where
+      by : (o : Outcome) → Settles file words o → o ≡ accepted ps rows → HasReading file
+      by _ (Settles.over-size h) d = impossible cc
+      by _ (Settles.unsplit m i small e) d = impossible cc
+      by _ (Settles.no-token-room qs small e h) d = impossible cc
+      by _ (Settles.no-reading qs m i f none b) d = impossible cc
+      by _ (Settles.no-room qs table f r h) d = impossible cc
+      by _ (Settles.reads qs f r h) d = record { small = f .small; tokens = qs; splits = f .splits; reading = r }
+
+pub read-answers : ReadAnswers
+unfolding answerOf tablesOf
+read-answers file words = by (readOf file words) refl
+  where
+    by : (o : Outcome) → readOf file words ≡ o → ReadAnswer file words (answerOf o) (tablesOf o words)
+    by (refused n place) e = ReadAnswer.refusal n place (refused-numbered file words n place e)
+    by (accepted ps rows) e = ReadAnswer.acceptance _ _ refl refl (accepted-has file words ps rows e)

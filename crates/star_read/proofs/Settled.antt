@@ -1,0 +1,129 @@
+-- Reading is settled for every file and any tables, and in one way: each case of the outcome is one of the checks in their order, and what the
+-- grammar decides is its verdict, which accepts where there is a reading and else names the first bad token.
+use mathlib.Core.Path.{_≡_, refl, sym, ap, _∙_}
+use mathlib.Core.Bool.{Bool, true, false}
+use mathlib.Core.List.{List}
+use Prim.Native.Nat.{ℕ, _*_, _≤_, _<_}
+use borrow.Author.Tests.{le-leb, lt-leb, lt-ltb, le-ltb, leb-true, leb-false, ltb-true, ltb-false}
+use lib.Dec.{leb, ltb}
+use lib.ListN.{length}
+use Rattle.star_lex.specs.Tokens.{Placed}
+use Rattle.star_lex.specs.Split.{Split, tokensOf}
+use Rattle.star_lex.specs.Split as Split
+use Rattle.star_lex.specs.Found.{tokensIn}
+use Rattle.star_lex.specs.Found as Found
+use Rattle.star_grammar.specs.Tables.{Rows, rowsOf}
+use Rattle.star_grammar.specs.Reading.{Reading}
+use Rattle.star_read.specs.Read.{Outcome, refused, accepted, Sizes, tokensOnly, grammarOf, fitting, after, readOf}
+use Rattle.star_read.specs.Demands.{Room, Tokenized, Bad, Short, Settles, ReadingSettled, OneOutcome}
+use Rattle.star_read.proofs.Verdict.{Verdict, verdict}
+use Rattle.star_read.proofs.Fitting.{refused≢accepted, tokenized-read, room-fits}
+use Rattle.star_read.proofs.FairFile.{accepted-reading}
+use Rattle.star_read.proofs.FirstBad.{verdict-bad, bad-once}
+use Rattle.star_read.proofs.Demand3.{accepted-verdict, reading-accepted}
+
+-- rows that have room, or the lowest table that is too short
+data Fits (words : Sizes) (ps : List Placed) (rows : Rows) : Outcome → Type 0 where
+  short : (table : ℕ) → Short words rows table → Fits words ps rows (refused 7 table)
+  room : Room words rows → Fits words ps rows (accepted ps rows)
+
+fits : (words : Sizes) (ps : List Placed) (rows : Rows) → Fits words ps rows (fitting words (accepted ps rows))
+unfolding fitting
+fits words ps rows =
+    by (ltb (words .sets) (length (rows .sets) * 3)) refl (ltb (words .names) (length (rows .names) * 4)) refl
+    (ltb (words .packets) (length (rows .packets) * 3)) refl (ltb (words .values) (length (rows .values) * 3)) refl
+  where
+    by : (a : Bool) → ltb (words .sets) (length (rows .sets) * 3) ≡ a → (b : Bool) → ltb (words .names) (length (rows .names) * 4) ≡ b
+        → (c : Bool) → ltb (words .packets) (length (rows .packets) * 3) ≡ c → (d : Bool) → ltb (words .values) (length (rows .values) * 3) ≡ d
+        → Fits words ps rows (fitting words (accepted ps rows))
+    by true p b q c r d s = rw p (Fits.short 2 (Short.sets (ltb-true _ _ p)))
+    by false p true q c r d s = rw (p, q) (Fits.short 3 (Short.names (ltb-false _ _ p) (ltb-true _ _ q)))
+    by false p false q true r d s = rw (p, q, r) (Fits.short 4 (Short.packets (ltb-false _ _ p) (ltb-false _ _ q) (ltb-true _ _ r)))
+    by false p false q false r true s =
+        rw (p, q, r, s) (Fits.short 5 (Short.values (ltb-false _ _ p) (ltb-false _ _ q) (ltb-false _ _ r) (ltb-true _ _ s)))
+    by false p false q false r false s =
+        rw (p, q, r, s) (Fits.room (record { sets = ltb-false _ _ p; names = ltb-false _ _ q; packets = ltb-false _ _ r; values = ltb-false _ _ s }))
+
+short-fits : (words : Sizes) (ps : List Placed) (rows : Rows) (table : ℕ) → Short words rows table → fitting words (accepted ps rows) ≡ refused 7 table
+unfolding fitting
+short-fits words ps rows table (Short.sets a) = rw (lt-ltb _ _ a)
+short-fits words ps rows table (Short.names a b) = rw (le-ltb _ _ a, lt-ltb _ _ b)
+short-fits words ps rows table (Short.packets a b c) = rw (le-ltb _ _ a, le-ltb _ _ b, lt-ltb _ _ c)
+short-fits words ps rows table (Short.values a b c d) = rw (le-ltb _ _ a, le-ltb _ _ b, le-ltb _ _ c, lt-ltb _ _ d)
+
+-- from the tokens on
+module _ (file : List ℕ) (words : Sizes) (ps : List Placed) (f : Tokenized file words ps) where
+  settles-rows : (r : Reading (tokensOnly ps)) (o : Outcome) → Fits words ps (rowsOf (r .tree)) o → Settles file words o
+  settles-rows r o (Fits.short table h) = Settles.no-room ps table f r h
+  settles-rows r o (Fits.room h) = Settles.reads ps f r h
+
+  settles-grammar : (o : Outcome) → grammarOf (length file) ps ≡ o → Verdict ps (length file) o → Settles file words (fitting words o)
+  unfolding fitting
+  settles-grammar (refused n place) e v =
+      Settles.no-reading ps n place f (λ r. refused≢accepted n place ps (rowsOf (r .tree)) (sym e ∙ reading-accepted ps (length file) r))
+      (verdict-bad file words ps f n place (refused n place) v refl)
+  settles-grammar (accepted qs rows) e v =
+      let k = accepted-verdict ps qs (length file) rows _ v refl in
+      let r : (r : Reading (tokensOnly ps)) × (rows ≡ rowsOf (r .tree)) = accepted-reading file words ps f rows (k .1) (k .2) in
+      rw (← (k .0), r .1) (settles-rows (r .0) _ (fits words ps (rowsOf (r .0 .tree))))
+
+-- the checks before the grammar
+module _ (file : List ℕ) (words : Sizes) where
+  over-size-read : 1048576 < length file → readOf file words ≡ refused 1 0
+  unfolding readOf after tokensIn
+  over-size-read h = rw (lt-leb (length file) 1048576 h)
+
+  unsplit-read : (n place : ℕ) → length file ≤ 1048576 → tokensOf file ≡ Split.refused n place → readOf file words ≡ refused n place
+  unfolding readOf after tokensIn Found.fitting
+  unsplit-read n place small e = rw (le-leb (length file) 1048576 small, e)
+
+  no-room-read : (ps : List Placed) → length file ≤ 1048576 → tokensOf file ≡ Split.accepted ps → words .tokens < length ps * 3
+      → readOf file words ≡ refused 7 1
+  unfolding readOf after tokensIn Found.fitting
+  no-room-read ps small e h = rw (le-leb (length file) 1048576 small, e, lt-leb (length ps * 3) (words .tokens) h)
+
+pub reading-settled : ReadingSettled
+reading-settled file words = bySize (leb (length file) 1048576) refl
+  where
+    byRoom : (ps : List Placed) → length file ≤ 1048576 → tokensOf file ≡ Split.accepted ps → (b : Bool) → leb (length ps * 3) (words .tokens) ≡ b
+        → Settles file words (readOf file words)
+    byRoom ps small e true d =
+        let f : Tokenized file words ps = record { small = small; splits = e; room = leb-true _ _ d } in
+        rw (tokenized-read file words ps f) (settles-grammar file words ps f (grammarOf (length file) ps) refl (verdict ps (length file)))
+    byRoom ps small e false d =
+        let h : words .tokens < length ps * 3 = leb-false _ _ d in
+        rw (no-room-read file words ps small e h) (Settles.no-token-room ps small e h)
+
+    bySplit : length file ≤ 1048576 → (s : Split) → tokensOf file ≡ s → Settles file words (readOf file words)
+    bySplit small (Split.refused n place) e = rw (unsplit-read file words n place small e) (Settles.unsplit n place small e)
+    bySplit small (Split.accepted ps) e = byRoom ps small e (leb (length ps * 3) (words .tokens)) refl
+
+    bySize : (b : Bool) → leb (length file) 1048576 ≡ b → Settles file words (readOf file words)
+    bySize true d = bySplit (leb-true _ _ d) (tokensOf file) refl
+    bySize false d = let h : 1048576 < length file = leb-false _ _ d in rw (over-size-read file words h) (Settles.over-size h)
+
+-- what is settled is what is read
+module _ (file : List ℕ) (words : Sizes) where
+  read-rows : (ps : List Placed) → Tokenized file words ps → (r : Reading (tokensOnly ps)) → readOf file words ≡ fitting words (accepted ps (rowsOf (r .tree)))
+  read-rows ps f r = tokenized-read file words ps f ∙ ap (fitting words) (reading-accepted ps (length file) r)
+
+  read-bad : (ps : List Placed) (n place : ℕ) → Tokenized file words ps → (Reading (tokensOnly ps) → ⊥) → Bad file ps n place → readOf file words ≡ refused n place
+  unfolding fitting
+  read-bad ps n place f none b = tokenized-read file words ps f ∙ by (grammarOf (length file) ps) (verdict ps (length file))
+    where
+      by : (o : Outcome) → Verdict ps (length file) o → fitting words o ≡ refused n place
+      by (refused m i) v = let k : (m ≡ n) × (i ≡ place) = bad-once (verdict-bad file words ps f m i (refused m i) v refl) b in cc (k .0, k .1)
+      by (accepted qs rows) v =
+          let k = accepted-verdict ps qs (length file) rows _ v refl in
+          absurd (none (accepted-reading file words ps f rows (k .1) (k .2) .0))
+
+  settled-read : (o : Outcome) → Settles file words o → readOf file words ≡ o
+  settled-read _ (Settles.over-size h) = over-size-read file words h
+  settled-read _ (Settles.unsplit n place small e) = unsplit-read file words n place small e
+  settled-read _ (Settles.no-token-room ps small e h) = no-room-read file words ps small e h
+  settled-read _ (Settles.no-reading ps n place f none b) = read-bad ps n place f none b
+  settled-read _ (Settles.no-room ps table f r h) = read-rows ps f r ∙ short-fits words ps (rowsOf (r .tree)) table h
+  settled-read _ (Settles.reads ps f r h) = read-rows ps f r ∙ room-fits words ps (rowsOf (r .tree)) h
+
+pub one-outcome : OneOutcome
+one-outcome file words o u a b = sym (settled-read file words o a) ∙ settled-read file words u b
