@@ -10,7 +10,7 @@ use native.Mathlib.Omega.{arith}
 use borrow.Author.Tests.{le-leb}
 use lib.ListN.{length, getD, length-map, List·getD-map}
 use Rattle.star_rows.specs.Rows.{holding}
-use Rattle.star_rows.proofs.Held.{holding-room}
+use Rattle.star_rows.proofs.Held.{holding-room, held-word}
 use Rattle.star_lex.specs.Tokens.{Placed, tokenRow}
 use Rattle.star_lex.specs.Split.{tokensOf, placed}
 use Rattle.star_lex.specs.Split as Split
@@ -25,8 +25,44 @@ use Rattle.star_unique.proofs.Held.{Row, held-row}
 use Rattle.star_read.specs.Read.{accepted, Sizes, tokensOnly, readOf}
 use Rattle.star_read.proofs.Demand3.{rows-of-reading, one-reading}
 use Rattle.star_read.proofs.Accepted.{accepted-holds}
-use Rattle.star_find.specs.Find.{fits, isRow, wordOf, partOf, contentAt, countsFit}
-use Rattle.star_find.specs.Demands.{left, counted, contentOf, kindOf}
+use Rattle.star_read.specs.Answer.{answerOf, tablesOf}
+use Rattle.star_find.specs.Find.{Lent, fits, isRow, wordOf, partOf, contentAt, countsFit}
+use Rattle.star_find.specs.Demands.{lentAfter, countsAfter, contentOf, kindOf, spanOf}
+use Rattle.star_find.specs.declared.Counts.{Counts}
+
+-- the file and the five tables that hold these rows, and their counts
+unfoldable pub left : List ℕ → Sizes → List Placed → Rows → Lent
+left file words ps rows = record {
+  file = file;
+  tokens = holding tokenRow ps (words .tokens);
+  sets = holding setWords (rows .sets) (words .sets);
+  names = holding nameWords (rows .names) (words .names);
+  packets = holding packetWords (rows .packets) (words .packets);
+  values = holding valueWords (rows .values) (words .values);
+}
+
+unfoldable pub counted : List Placed → Rows → Counts
+counted ps rows = record {
+  tokens = length ps;
+  sets = length (rows .sets);
+  names = length (rows .names);
+  packets = length (rows .packets);
+  values = length (rows .values);
+}
+
+-- they are what reading leaves and answers
+module _ (file : List ℕ) (words : Sizes) (ps : List Placed) (rows : Rows) (e : readOf file words ≡ accepted ps rows) where
+  pub lent-left : lentAfter file words ≡ left file words ps rows
+  unfolding tablesOf left
+  lent-left = rw e
+
+  pub counts-counted : countsAfter file words ≡ counted ps rows
+  unfolding answerOf counted
+  counts-counted = rw e
+
+-- no token, which stands where there is none
+abbrev nowhere : Placed
+nowhere = record { at = 0; token = record { kind = 0; content = [] } }
 
 -- the counts fit, and a number from 1 to a count is a row
 pub counts-fit : (file : List ℕ) (words : Sizes) (ps : List Placed) (rows : Rows) → countsFit (left file words ps rows) (counted ps rows) ≡ true
@@ -91,6 +127,18 @@ module _ (file : List ℕ) (words : Sizes) (ps : List Placed) (rows : Rows) (e :
     pub token-kind : wordOf (holding tokenRow ps (words .tokens)) 3 row 0 ≡ kindOf ps row
     unfolding wordOf
     token-kind = rw (add-zero, token-row .kind, token-at, kind-at)
+
+    -- and its span
+    pub token-span : record { start = wordOf (holding tokenRow ps (words .tokens)) 3 row 1; end = wordOf (holding tokenRow ps (words .tokens)) 3 row 2 } ≡ spanOf ps row
+    unfolding wordOf spanOf tokenRow kindOf contentOf
+    token-span =
+        rw (
+          held-word 3 tokenRow row-wide nowhere ps (words .tokens) (row - 1) 1 (omega (arith, is .0, is .1)) (omega arith),
+          held-word 3 tokenRow row-wide nowhere ps (words .tokens) (row - 1) 2 (omega (arith, is .0, is .1)) (omega arith),
+          List·getD-map (λ p. p .at) ps (row - 1) nowhere,
+          List·getD-map (λ p. p .token .kind) ps (row - 1) nowhere,
+          List·getD-map (λ p. p .token .content) ps (row - 1) nowhere,
+        )
 
 -- the rows after acceptance, against the reading's tree
 pub record RowsAfter (ps : List Placed) (rows : Rows) (f : File) : Type 0 where

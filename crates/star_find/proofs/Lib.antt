@@ -5,3 +5,4 @@ pub mod Numbered
 pub mod After
 pub mod Values
 pub mod Lookup
+pub mod Demand1

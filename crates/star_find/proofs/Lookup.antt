@@ -17,12 +17,12 @@ use Rattle.star_unique.proofs.Held.{each-at}
 use Rattle.star_read.specs.Read.{accepted, Sizes, tokensOnly, readOf}
 use Rattle.star_read.proofs.Demand3.{rows-of-reading}
 use Rattle.star_find.specs.Find.{findName, findBlock, findFrame, isRow, look, refused}
-use Rattle.star_find.specs.Demands.{left, counted, contentOf, HoldsName, FirstName, LookupByName, SetWith, LookupBlock, HoldsFrame, LookupFrame, ValuesInOrder}
+use Rattle.star_find.specs.Demands.{contentOf, HoldsName, FirstName, LookupByName, SetWith, LookupBlock, HoldsFrame, LookupFrame, ValuesInOrder}
 use Rattle.star_find.specs.declared.Found.{Found}
 use Rattle.star_find.proofs.Seeking.{Sought, sought-alike, FirstOf, asked, asked-first, asked-parent, look-sought}
 use Rattle.star_find.proofs.Answers.{Answers, place-made, answers}
 use Rattle.star_find.proofs.Numbered.{holds-name, sets-count, holds-frame, sets-count-codes, block-code, code-block}
-use Rattle.star_find.proofs.After.{counts-fit, row-inside, content-in, token-content, RowsAfter, rows-after}
+use Rattle.star_find.proofs.After.{left, counted, lent-left, counts-counted, counts-fit, row-inside, content-in, token-content, RowsAfter, rows-after}
 use Rattle.star_find.proofs.Values.{value-found, value-none}
 
 -- no row, which stands where there is none
@@ -185,23 +185,24 @@ lookup-by-name file words ps rows e r set name =
     let a : Answers (HoldsName (r .tree) set name) (λ i. HasName ps set name (getD (rows .names) i noName)) (length (rows .names))
     (findName (left file words ps rows) (counted ps rows) set name)
     = name-answers file words ps rows e (r .tree) (rows-after file words ps rows e r) set name in
-    (a .0, λ h. first-name ps rows set name _ (a .1 h))
+    rw (lent-left file words ps rows e, counts-counted file words ps rows e) (a .0, λ h. first-name ps rows set name _ (a .1 h))
 
 pub lookup-block : LookupBlock
 lookup-block file words ps rows e r code =
     let a : Answers (List·Memᴰ code (map (λ b. b .heading .content) (r .tree))) (λ i. HasCode ps 1 0 code (getD (rows .sets) i noSet)) (length (rows .sets))
     (findBlock (left file words ps rows) (counted ps rows) code)
     = block-answers file words ps rows e (r .tree) (rows-after file words ps rows e r) code in
-    (a .0, λ h. set-with ps rows 1 0 code _ (a .1 h))
+    rw (lent-left file words ps rows e, counts-counted file words ps rows e) (a .0, λ h. set-with ps rows 1 0 code _ (a .1 h))
 
 pub lookup-frame : LookupFrame
 lookup-frame file words ps rows e r set code =
     let a : Answers (HoldsFrame (r .tree) set code) (λ i. HasCode ps 2 set code (getD (rows .sets) i noSet)) (length (rows .sets))
     (findFrame (left file words ps rows) (counted ps rows) set code)
     = frame-answers file words ps rows e (r .tree) (rows-after file words ps rows e r) set code in
-    (a .0, λ h. set-with ps rows 2 set code _ (a .1 h))
+    rw (lent-left file words ps rows e, counts-counted file words ps rows e) (a .0, λ h. set-with ps rows 2 set code _ (a .1 h))
 
 pub values-in-order : ValuesInOrder
 values-in-order file words ps rows e name low high =
     let k : RowsAfter ps rows _ = rows-after file words ps rows e (rows-of-reading file words ps rows e .1) in
+    rw (lent-left file words ps rows e, counts-counted file words ps rows e)
     (value-found file words ps rows e (k .inside) name low high, value-none file words ps rows e (k .inside) name low high)

@@ -18,10 +18,10 @@ use Rattle.star_grammar.proofs.Counted.{value-wide}
 use Rattle.star_grammar.proofs.RowsOf.{IsToken, Inside}
 use Rattle.star_unique.proofs.Held.{each-at}
 use Rattle.star_read.specs.Read.{accepted, Sizes, readOf}
-use Rattle.star_find.specs.Find.{wordOf, contentAt, refused, found, kth, located, locate, valueOf, valueAt, orEmpty, valuePart}
-use Rattle.star_find.specs.Demands.{left, counted, contentOf, kindOf, ofName}
+use Rattle.star_find.specs.Find.{wordOf, contentAt, refused, found, kth, located, locate, valueOf, valueAt, orEmpty, valuePart, valueSpan}
+use Rattle.star_find.specs.Demands.{contentOf, kindOf, spanOf, ofName}
 use Rattle.star_find.proofs.Seeking.{word-held}
-use Rattle.star_find.proofs.After.{counts-fit, row-inside, token-content, token-kind}
+use Rattle.star_find.proofs.After.{left, counted, counts-fit, row-inside, token-content, token-kind, token-span}
 
 -- no row, which stands where there is none
 abbrev noValue : ValueRow
@@ -126,21 +126,28 @@ module _ (file : List ℕ) (words : Sizes) (ps : List Placed) (rows : Rows) (e :
     unfolding orEmpty valueWords
     part-is = rw (value-word 2 (omega arith), token-content file words ps rows e (v .value) value-token)
 
+    span-is : record { start = wordOf (holding tokenRow ps (words .tokens)) 3 (wordOf (holding valueWords (rows .values) (words .values)) 3 (suc i) 2) 1; end = wordOf (holding tokenRow ps (words .tokens)) 3 (wordOf (holding valueWords (rows .values) (words .values)) 3 (suc i) 2) 2 }
+        ≡ spanOf ps (v .value)
+    unfolding valueWords
+    span-is = rw (value-word 2 (omega arith)) (token-span file words ps rows e (v .value) value-token)
+
   pub value-found : (before : List ValueRow) (v : ValueRow) (behind : List ValueRow) → ofName name (rows .values) ≡ before ++ (v ∷ behind)
       → (valueAt (left file words ps rows) (counted ps rows) name (suc (length before)) ≡ record { refusal = 0; kind = kindOf ps (v .value); packet = v .packet })
       × (valuePart (left file words ps rows) (counted ps rows) name (suc (length before)) ≡ contentOf ps (v .value))
-  unfolding valueAt valuePart left counted found
+      × (valueSpan (left file words ps rows) (counted ps rows) name (suc (length before)) ≡ spanOf ps (v .value))
+  unfolding valueAt valuePart valueSpan left counted found
   value-found before v behind h =
       let p : RowOf (isValue words rows name) name (rows .values) 0 (suc (length before)) v = kth-row (isValue words rows name) name (rows .values) 0 values-from before v behind h in
       let q : locate (left file words ps rows) (counted ps rows) name (suc (length before)) ≡ found (suc (p .0))
       = locates (suc (length before)) ∙ ap (located (left file words ps rows) (counted ps rows)) (p .2 ∙ ap suc (zero-add (p .0))) ∙ value-located v (p .0) (p .1) (p .3) in
-      (ap (valueOf (left file words ps rows)) q ∙ value-is v (p .0) (p .1) (p .3), rw q (part-is v (p .0) (p .1) (p .3)))
+      (ap (valueOf (left file words ps rows)) q ∙ value-is v (p .0) (p .1) (p .3), rw q (part-is v (p .0) (p .1) (p .3)), rw q (span-is v (p .0) (p .1) (p .3)))
 
   pub value-none : (n : ℕ) → (n ≡ 0) ⊎ (length (ofName name (rows .values)) < n)
       → (valueAt (left file words ps rows) (counted ps rows) name n ≡ record { refusal = 13; kind = 0; packet = 0 })
       × (valuePart (left file words ps rows) (counted ps rows) name n ≡ [])
-  unfolding valueAt valuePart valueOf located refused
+      × (valueSpan (left file words ps rows) (counted ps rows) name n ≡ record { start = 0; end = 0 })
+  unfolding valueAt valuePart valueSpan valueOf located refused
   value-none n h =
       let q : locate (left file words ps rows) (counted ps rows) name n ≡ refused 13
       = locates n ∙ ap (located (left file words ps rows) (counted ps rows)) (kth-none (isValue words rows name) name (rows .values) 0 n values-from h) in
-      (ap (valueOf (left file words ps rows)) q, rw q)
+      (ap (valueOf (left file words ps rows)) q, rw q, rw q)

@@ -3,37 +3,32 @@ use mathlib.Core.Path.{_≡_}
 use mathlib.Core.Bool.{cond}
 use mathlib.Core.Logic.{_⊎_, _↔_}
 use mathlib.Core.List.{List, [], _∷_, _++_, map, flatMap, List·Memᴰ}
-use Prim.Native.Nat.{ℕ, suc, _-_, _≤_, _<_}
+use Prim.Native.Nat.{ℕ, suc, _+_, _-_, _≤_, _<_}
 use lib.Dec.{eqb}
-use lib.ListN.{length, getD}
-use Rattle.star_rows.specs.Rows.{holding}
-use Rattle.star_lex.specs.Tokens.{Placed, tokenRow}
+use lib.ListN.{length, getD, take, drop}
+use Rattle.star_lex.specs.Tokens.{Placed, opening}
 use Rattle.star_grammar.specs.Tree.{Member, own, framed, Block, File}
-use Rattle.star_grammar.specs.Tables.{Rows, ValueRow, setWords, nameWords, packetWords, valueWords}
+use Rattle.star_grammar.specs.Tables.{Rows, ValueRow}
 use Rattle.star_grammar.specs.Reading.{Reading, entryNames, ownNames, frameCodes}
 use Rattle.star_read.specs.Read.{accepted, Sizes, tokensOnly, readOf}
-use Rattle.star_find.specs.Find.{Lent, findName, findBlock, findFrame, valueAt, valuePart}
+use Rattle.star_read.specs.Answer.{answerOf, Tables, tablesOf}
+use Rattle.star_read.specs.declared.Reading as Answer
+use Rattle.star_find.specs.Find.{Lent, lent, findName, findBlock, findFrame, valueAt, valuePart, valueSpan}
 use Rattle.star_find.specs.declared.Counts.{Counts}
+use Rattle.star_find.specs.declared.Found.{Found}
+use Rattle.star_find.specs.declared.Value.{Value}
+use Rattle.star_find.specs.declared.Span.{Span}
 
--- the file and the five tables as the reader left them, and the counts
-unfoldable pub left : List ℕ → Sizes → List Placed → Rows → Lent
-left file words ps rows = record {
-  file = file;
-  tokens = holding tokenRow ps (words .tokens);
-  sets = holding setWords (rows .sets) (words .sets);
-  names = holding nameWords (rows .names) (words .names);
-  packets = holding packetWords (rows .packets) (words .packets);
-  values = holding valueWords (rows .values) (words .values);
-}
+-- the file with the tables that reading leaves, and the counts that it answers
+abbrev pub lentAfter : List ℕ → Sizes → Lent
+lentAfter file words =
+    let t : Tables = tablesOf (readOf file words) words in
+    lent file (t .tokens) (t .sets) (t .names) (t .packets) (t .values)
 
-unfoldable pub counted : List Placed → Rows → Counts
-counted ps rows = record {
-  tokens = length ps;
-  sets = length (rows .sets);
-  names = length (rows .names);
-  packets = length (rows .packets);
-  values = length (rows .values);
-}
+abbrev pub countsAfter : List ℕ → Sizes → Counts
+countsAfter file words =
+    let r : Answer.Reading = answerOf (readOf file words) in
+    record { tokens = r .tokens; sets = r .sets; names = r .names; packets = r .packets; values = r .values }
 
 -- the own names of each set of a tree, sets in the order of their first tokens: a block, then its frames
 unfoldable pub frameNames : Member → List (List (List ℕ))
@@ -67,9 +62,9 @@ pub record FirstName (ps : List Placed) (rows : Rows) (set : ℕ) (name : List �
 abbrev pub LookupByName : Type 0
 LookupByName = (file : List ℕ) (words : Sizes) (ps : List Placed) (rows : Rows) → readOf file words ≡ accepted ps rows
     → (r : Reading (tokensOnly ps)) (set : ℕ) (name : List ℕ)
-    → ((findName (left file words ps rows) (counted ps rows) set name .refusal ≡ 0) ↔ HoldsName (r .tree) set name)
-    × (findName (left file words ps rows) (counted ps rows) set name .refusal ≡ 0
-    → FirstName ps rows set name (findName (left file words ps rows) (counted ps rows) set name .row))
+    → ((findName (lentAfter file words) (countsAfter file words) set name .refusal ≡ 0) ↔ HoldsName (r .tree) set name)
+    × (findName (lentAfter file words) (countsAfter file words) set name .refusal ≡ 0
+    → FirstName ps rows set name (findName (lentAfter file words) (countsAfter file words) set name .row))
 
 -- a set row of that kind and parent whose code has these bytes
 pub record SetWith (ps : List Placed) (rows : Rows) (kind parent : ℕ) (code : List ℕ) (row : ℕ) : Type 0 where
@@ -83,9 +78,9 @@ pub record SetWith (ps : List Placed) (rows : Rows) (kind parent : ℕ) (code : 
 abbrev pub LookupBlock : Type 0
 LookupBlock = (file : List ℕ) (words : Sizes) (ps : List Placed) (rows : Rows) → readOf file words ≡ accepted ps rows
     → (r : Reading (tokensOnly ps)) (code : List ℕ)
-    → ((findBlock (left file words ps rows) (counted ps rows) code .refusal ≡ 0) ↔ List·Memᴰ code (map (λ b. b .heading .content) (r .tree)))
-    × (findBlock (left file words ps rows) (counted ps rows) code .refusal ≡ 0
-    → SetWith ps rows 1 0 code (findBlock (left file words ps rows) (counted ps rows) code .row))
+    → ((findBlock (lentAfter file words) (countsAfter file words) code .refusal ≡ 0) ↔ List·Memᴰ code (map (λ b. b .heading .content) (r .tree)))
+    × (findBlock (lentAfter file words) (countsAfter file words) code .refusal ≡ 0
+    → SetWith ps rows 1 0 code (findBlock (lentAfter file words) (countsAfter file words) code .row))
 
 -- the frame codes of each set, sets in the order of their first tokens; a frame has none
 unfoldable pub noCodes : Member → List (List (List ℕ))
@@ -104,9 +99,9 @@ pub record HoldsFrame (f : File) (set : ℕ) (code : List ℕ) : Type 0 where
 abbrev pub LookupFrame : Type 0
 LookupFrame = (file : List ℕ) (words : Sizes) (ps : List Placed) (rows : Rows) → readOf file words ≡ accepted ps rows
     → (r : Reading (tokensOnly ps)) (set : ℕ) (code : List ℕ)
-    → ((findFrame (left file words ps rows) (counted ps rows) set code .refusal ≡ 0) ↔ HoldsFrame (r .tree) set code)
-    × (findFrame (left file words ps rows) (counted ps rows) set code .refusal ≡ 0
-    → SetWith ps rows 2 set code (findFrame (left file words ps rows) (counted ps rows) set code .row))
+    → ((findFrame (lentAfter file words) (countsAfter file words) set code .refusal ≡ 0) ↔ HoldsFrame (r .tree) set code)
+    × (findFrame (lentAfter file words) (countsAfter file words) set code .refusal ≡ 0
+    → SetWith ps rows 2 set code (findFrame (lentAfter file words) (countsAfter file words) set code .row))
 
 -- the value rows of a name row, in file order
 unfoldable pub ofName : ℕ → List ValueRow → List ValueRow
@@ -116,14 +111,49 @@ ofName name (v ∷ vs) = cond (eqb (v .name) name) (v ∷ ofName name vs) (ofNam
 unfoldable pub kindOf : List Placed → (row : ℕ) → ℕ
 kindOf ps row = getD (map (λ p. p .token .kind) ps) (row - 1) 0
 
--- the values of a name row, k = 1, 2, .., are those of the reading in file order, each with its packet and the content of its token; past
--- the last there is none
+-- where the content of the token of that row lies in the file
+unfoldable pub spanOf : List Placed → (row : ℕ) → Span
+spanOf ps row =
+    let start : ℕ = getD (map (λ p. p .at) ps) (row - 1) 0 + length (opening (kindOf ps row)) in
+    record { start = start; end = start + length (contentOf ps row) }
+
+-- the values of a name row, k = 1, 2, .., are those of the reading in file order, each with its packet and the content of its token, where that
+-- lies; past the last there is none
 abbrev pub ValuesInOrder : Type 0
 ValuesInOrder = (file : List ℕ) (words : Sizes) (ps : List Placed) (rows : Rows) → readOf file words ≡ accepted ps rows
     → (name : ℕ) → 1 ≤ name → name ≤ length (rows .names)
     → ((before : List ValueRow) (v : ValueRow) (behind : List ValueRow) → ofName name (rows .values) ≡ before ++ (v ∷ behind)
-    → (valueAt (left file words ps rows) (counted ps rows) name (suc (length before)) ≡ record { refusal = 0; kind = kindOf ps (v .value); packet = v .packet })
-    × (valuePart (left file words ps rows) (counted ps rows) name (suc (length before)) ≡ contentOf ps (v .value)))
+    → (valueAt (lentAfter file words) (countsAfter file words) name (suc (length before)) ≡ record { refusal = 0; kind = kindOf ps (v .value); packet = v .packet })
+    × (valuePart (lentAfter file words) (countsAfter file words) name (suc (length before)) ≡ contentOf ps (v .value))
+    × (valueSpan (lentAfter file words) (countsAfter file words) name (suc (length before)) ≡ spanOf ps (v .value)))
     × ((k : ℕ) → (k ≡ 0) ⊎ (length (ofName name (rows .values)) < k)
-    → (valueAt (left file words ps rows) (counted ps rows) name k ≡ record { refusal = 13; kind = 0; packet = 0 })
-    × (valuePart (left file words ps rows) (counted ps rows) name k ≡ []))
+    → (valueAt (lentAfter file words) (countsAfter file words) name k ≡ record { refusal = 13; kind = 0; packet = 0 })
+    × (valuePart (lentAfter file words) (countsAfter file words) name k ≡ [])
+    × (valueSpan (lentAfter file words) (countsAfter file words) name k ≡ record { start = 0; end = 0 }))
+
+-- what lies between the offsets of a value is its part, of any file, tables, counts and numbers
+abbrev pub SpanPart : Type 0
+SpanPart = (l : Lent) (c : Counts) (name k : ℕ)
+    → take (valueSpan l c name k .end - valueSpan l c name k .start) (drop (valueSpan l c name k .start) (l .file)) ≡ valuePart l c name k
+
+-- demand 1, of a lookup among so many rows: a row is found, or the answer is 13 or 14 and row 0
+pub data RowAnswer (rows : ℕ) : Found → Type 0 where
+  at : (row : ℕ) → 1 ≤ row → row ≤ rows → RowAnswer rows (record { refusal = 0; row = row })
+  nowhere : RowAnswer rows (record { refusal = 13; row = 0 })
+  outside : RowAnswer rows (record { refusal = 14; row = 0 })
+
+abbrev pub LookupsAnswer : Type 0
+LookupsAnswer = (l : Lent) (c : Counts)
+    → ((code : List ℕ) → RowAnswer (c .sets) (findBlock l c code))
+    × ((set : ℕ) (code : List ℕ) → RowAnswer (c .sets) (findFrame l c set code))
+    × ((set : ℕ) (name : List ℕ) → RowAnswer (c .names) (findName l c set name))
+
+-- demand 1, of a value: its part lies within the file; or the answer is 13 or 14, kind, packet and offsets are 0, and the part is empty
+pub data ValueAnswer (file : List ℕ) : Value → Span → (part : List ℕ) → Type 0 where
+  at : (kind packet start end : ℕ) → start ≤ end → end ≤ length file
+      → ValueAnswer file (record { refusal = 0; kind = kind; packet = packet }) (record { start = start; end = end }) (take (end - start) (drop start file))
+  nowhere : ValueAnswer file (record { refusal = 13; kind = 0; packet = 0 }) (record { start = 0; end = 0 }) []
+  outside : ValueAnswer file (record { refusal = 14; kind = 0; packet = 0 }) (record { start = 0; end = 0 }) []
+
+abbrev pub ValuesAnswer : Type 0
+ValuesAnswer = (l : Lent) (c : Counts) (name k : ℕ) → ValueAnswer (l .file) (valueAt l c name k) (valueSpan l c name k) (valuePart l c name k)

@@ -137,6 +137,10 @@ valueSpan l c name k =
     let token : ℕ = wordOf (l .values) 3 (f .row) 2 in
     cond (eqb (f .refusal) 0) (record { start = wordOf (l .tokens) 3 token 1; end = wordOf (l .tokens) 3 token 2 }) (record { start = 0; end = 0 })
 
+-- so many bytes behind an address, which is a block of memory and an offset in it
+abbrev pub further : ℕ × ℕ → ℕ → ℕ × ℕ
+further address bytes = (address .0, bytes + address .1)
+
 -- how a content compares
 unfoldable pub matchOf : (wanted : List ℕ) → Option (List ℕ) → Match
 matchOf wanted none = Outside

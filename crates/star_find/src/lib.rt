@@ -4,7 +4,8 @@ ghost use mathlib.Core.Bool.{cond, true, _&&_};
 ghost use Prim.Native.Nat.{_*_, _+_, _-_, _≤_};
 ghost use lib.Dec.{eqb};
 ghost use lib.ListN.{length};
-ghost use Rattle.star_find.specs.Find.{lent, fits, isRow, contentAt, findBlock, findFrame, findName, isWanted, matchOf, wordOf, seek as Find·seek, kth, locate as Find·locate, valueAt, valuePart, valueSpan};
+ghost use denote.Ref.{ptr};
+ghost use Rattle.star_find.specs.Find.{lent, fits, isRow, contentAt, findBlock, findFrame, findName, isWanted, matchOf, wordOf, seek as Find·seek, kth, locate as Find·locate, valueAt, valuePart, valueSpan, further};
 ghost use Rattle.star_lex.specs.Found.{isSome};
 ghost use mathlib.Core.Option.{some};
 ghost use Rattle.star_find.specs.declared.Match.the-variants.{Other};
@@ -114,6 +115,7 @@ fn part<'a, 'b>(file: &'a [u8], tokens: &'b [u32], count: u32, row: u32) -> &'a 
     requires { ⌜ count * 3 ≤ length (now tokens) ⌝ }
     requires { ⌜ isSome (contentAt (now file) (now tokens) count row) ≡ true ⌝ }
     ensures { λ r. ⌜ contentAt (now (file .entry)) (now (tokens .entry)) count row ≡ some (now r) ⌝ }
+    ensures { λ r. ⌜ ptr r ≡ further (ptr (file .entry)) (wordOf (now (tokens .entry)) 3 row 1) ⌝ }
 {
     let at = (row as usize - 1) * 3;
     let start = tokens[at + 1] as usize;
@@ -466,6 +468,8 @@ pub fn value_part<'a, 'b>(
 ) -> &'a [u8]
     ensures { λ r. ⌜ now r ≡ valuePart (lent (now (file .entry)) (now (tokens .entry)) (now (sets .entry)) (now (names .entry)) (now (packets .entry))
         (now (values .entry))) counts name k ⌝ }
+    ensures { λ r. ⌜ ptr r ≡ further (ptr (file .entry)) (valueSpan (lent (now (file .entry)) (now (tokens .entry)) (now (sets .entry)) (now (names .entry))
+        (now (packets .entry)) (now (values .entry))) counts name k .start) ⌝ }
 {
     let found = locate(file, tokens, sets, names, packets, values, counts, name, k);
     if found.refusal != 0 {

@@ -22,11 +22,11 @@ same-requires c κs = search needs
 
 returns-2 : tie.Need-returns-2
 unfolding matchOf
-returns-2 c = rw (c .before .before .part .ensures, sym (c .before .same .ensures) ∙ c .if2 .taken)
+returns-2 c = rw (c .before .before .part .ensures .0, sym (c .before .same .ensures) ∙ c .if2 .taken)
 
 returns-3 : tie.Need-returns-3
 unfolding matchOf
-returns-3 c = rw (c .before .before .part .ensures, sym (c .before .same .ensures) ∙ c .if2 .left)
+returns-3 c = rw (c .before .before .part .ensures .0, sym (c .before .same .ensures) ∙ c .if2 .left)
 
 pub compare-spec : {M : Type 1} → statement M
 compare-spec =

@@ -1,7 +1,9 @@
 -- `part` meets its contract: the span lies within the file.
+use mathlib.Core.Path.{refl}
 use Prim.Native.Nat.{_+_, _-_, _*_}
 use native.Mathlib.Omega.{arith}
 use borrow.Author.Needs.{needs}
+use Rattle.star_find.specs.Find.{wordOf}
 use Rattle.star_find.proofs.Looking.{part-inside}
 use Rattle.star_find.proofs.part.Statement.{statement}
 use Rattle.star_find.proofs.part.Tie as tie
@@ -50,7 +52,11 @@ part-result-end : tie.Need-part-result-end
 part-result-end c = (part-inside (c .before .before .args .file .now) (c .before .before .args .tokens .now) (c .before .before .args .count) (c .before .before .args .row) (c .before .before .pre .1)) .within
 
 returns : tie.Need-returns
-returns c = (part-inside (c .before .before .before .args .file .now) (c .before .before .before .args .tokens .now) (c .before .before .before .args .count) (c .before .before .before .args .row) (c .before .before .before .pre .1)) .content-is
+unfolding wordOf
+returns c = (
+  part-inside (c .before .before .before .args .file .now) (c .before .before .before .args .tokens .now) (c .before .before .before .args .count) (c .before .before .before .args .row) (c .before .before .before .pre .1) .content-is,
+  refl,
+)
 
 pub part-spec : {M : Type 1} → statement M
 part-spec =

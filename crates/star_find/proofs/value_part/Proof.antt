@@ -3,7 +3,7 @@ use mathlib.Core.Path.{sym}
 use native.Mathlib.Omega.{arith}
 use borrow.Author.Needs.{needs}
 use borrow.Author.Tests.{eq-eqb, ne-eqb}
-use Rattle.star_find.specs.Find.{lent, valuePart, orEmpty, wordOf}
+use Rattle.star_find.specs.Find.{lent, valuePart, valueSpan, orEmpty, wordOf}
 use Rattle.star_find.proofs.Looking.{found-row}
 use Rattle.star_find.proofs.value_part.Statement.{statement}
 use Rattle.star_find.proofs.value_part.Tie as tie
@@ -21,8 +21,11 @@ part-result-end : tie.Need-part-result-end
 part-result-end c = search needs
 
 returns : tie.Need-returns
-unfolding valuePart orEmpty wordOf
-returns c = rw (sym (c .before .before .before .locate .ensures), ne-eqb _ 0 (c .before .if1 .taken))
+unfolding valuePart valueSpan orEmpty wordOf
+returns c = (
+  rw (sym (c .before .before .before .locate .ensures), ne-eqb _ 0 (c .before .if1 .taken)),
+  rw (sym (c .before .before .before .locate .ensures), ne-eqb _ 0 (c .before .if1 .taken)),
+)
 
 cast-at : tie.Need-cast-at
 cast-at c = search needs
@@ -53,8 +56,11 @@ part-requires c κs =
     (f .fitting .tokens-fit, f .inside)
 
 returns-2 : tie.Need-returns-2
-unfolding valuePart orEmpty wordOf
-returns-2 c = rw (sym (c .before .before .before .before .before .locate .ensures), eq-eqb _ 0 (c .before .before .before .if1 .left), c .part .ensures)
+unfolding valuePart valueSpan orEmpty wordOf
+returns-2 c = (
+  rw (sym (c .before .before .before .before .before .locate .ensures), eq-eqb _ 0 (c .before .before .before .if1 .left), c .part .ensures .0),
+  rw (sym (c .before .before .before .before .before .locate .ensures), eq-eqb _ 0 (c .before .before .before .if1 .left)) (c .part .ensures .1),
+)
 
 pub value-part-spec : {M : Type 1} → statement M
 value-part-spec =

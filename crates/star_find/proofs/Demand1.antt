@@ -1,0 +1,94 @@
+-- Demand 1, of lookup: a search answers one of its rows, 13 or 14; a value that is located has a part within the file.
+use mathlib.Core.Path.{_≡_, refl, sym}
+use mathlib.Core.Bool.{Bool, true, false, cond}
+use mathlib.Core.List.{List}
+use mathlib.Core.Option.{Option, none, some}
+use Prim.Native.Nat.{ℕ, zero, suc, _+_, _-_, _≤_}
+use native.Mathlib.Nat.{add-suc, suc-add, zero-add}
+use native.Mathlib.Omega.{arith}
+use borrow.Author.Tests.{eqb-false}
+use lib.Dec.{eqb}
+use lib.ListN.{take, drop}
+use Rattle.star_lex.specs.Found.{isSome}
+use Rattle.star_unique.specs.Repeat.{same}
+use Rattle.star_find.specs.Find.{Lent, isRow, wordOf, contentAt, found, refused, meet, seek, isWanted, look, countsFit, findName, findBlock, findFrame, kth, located, locate, valueOf, valueAt, orEmpty, valuePart, valueSpan}
+use Rattle.star_find.specs.Demands.{RowAnswer, LookupsAnswer, ValueAnswer, ValuesAnswer, SpanPart}
+use Rattle.star_find.specs.declared.Counts.{Counts}
+use Rattle.star_find.specs.declared.Found.{Found}
+use Rattle.star_find.specs.declared.Value.{Value}
+use Rattle.star_find.specs.declared.Span.{Span}
+use Rattle.star_find.proofs.Looking.{kth-bound, Inside, part-inside, found-row}
+
+answer-cond : {rows : ℕ} {a b : Found} (t : Bool) → RowAnswer rows a → RowAnswer rows b → RowAnswer rows (cond t a b)
+answer-cond true p q = p
+answer-cond false p q = q
+
+outside : {rows : ℕ} → RowAnswer rows (refused 14)
+unfolding refused
+outside = RowAnswer.outside
+
+meet-answers : (rows row : ℕ) → 1 ≤ row → row ≤ rows → (wanted : List ℕ) (o : Option (List ℕ)) {others : Found} → RowAnswer rows others
+    → RowAnswer rows (meet wanted row o others)
+unfolding meet found
+meet-answers rows row low high wanted none p = outside
+meet-answers rows row low high wanted (some c) p = answer-cond (same c wanted) (RowAnswer.at row low high) p
+
+seek-answers : (isOne : ℕ → Bool) (content : ℕ → Option (List ℕ)) (wanted : List ℕ) (left row : ℕ)
+    → RowAnswer (row + left) (seek isOne content wanted left (suc row))
+unfolding seek refused
+seek-answers isOne content wanted zero row = RowAnswer.nowhere
+seek-answers isOne content wanted (suc left) row =
+    let later : RowAnswer (row + suc left) (seek isOne content wanted left (suc (suc row)))
+    = rw (add-suc, ← suc-add) (seek-answers isOne content wanted left (suc row)) in
+    answer-cond (isOne (suc row)) (meet-answers (row + suc left) (suc row) (omega arith) (omega arith) wanted (content (suc row)) later) later
+
+look-answers : (l : Lent) (c : Counts) (table : List ℕ) (width first : ℕ) (byParent : Bool) (parent : ℕ) (wanted : List ℕ) (rows : ℕ)
+    → RowAnswer rows (look l c table width first byParent parent wanted rows)
+unfolding look
+look-answers l c table width first byParent parent wanted rows =
+    rw zero-add at (seek-answers (isWanted table width first byParent parent)
+    (λ row. contentAt (l .file) (l .tokens) (c .tokens) (wordOf table width row 1)) wanted rows 0)
+
+pub lookups-answer : LookupsAnswer
+unfolding findBlock findFrame findName
+lookups-answer l c = (
+  λ code. answer-cond (countsFit l c) (look-answers l c (l .sets) 3 1 false 0 code (c .sets)) outside,
+  λ set code. answer-cond (countsFit l c) (answer-cond (isRow (c .sets) set) (look-answers l c (l .sets) 3 2 true set code (c .sets)) outside) outside,
+  λ set name. answer-cond (countsFit l c) (answer-cond (isRow (c .sets) set) (look-answers l c (l .names) 4 set false 0 name (c .names)) outside) outside,
+)
+
+-- a value row
+located-answers : (l : Lent) (c : Counts) (row : ℕ) → row ≤ c .values → RowAnswer (c .values) (located l c row)
+unfolding located refused found
+located-answers l c row h = by (eqb row 0) refl
+  where
+    by : (t : Bool) → eqb row 0 ≡ t → RowAnswer (c .values) (located l c row)
+    by true e = rw e RowAnswer.nowhere
+    by false e =
+        rw e (answer-cond (isSome (contentAt (l .file) (l .tokens) (c .tokens) (wordOf (l .values) 3 row 2)))
+        (RowAnswer.at row (omega (arith, eqb-false row 0 e)) h) RowAnswer.outside)
+
+locate-answers : (l : Lent) (c : Counts) (name k : ℕ) → RowAnswer (c .values) (locate l c name k)
+unfolding locate
+locate-answers l c name k =
+    answer-cond (countsFit l c) (answer-cond (isRow (c .names) name)
+    (located-answers l c _ (rw zero-add at (kth-bound (λ row. eqb (wordOf (l .values) 3 row 0) name) k (c .values) 0))) outside) outside
+
+pub values-answer : ValuesAnswer
+unfolding valueAt valueSpan valuePart valueOf wordOf orEmpty
+values-answer l c name k = by (locate l c name k) refl (locate-answers l c name k)
+  where
+    by : (f : Found) → locate l c name k ≡ f → RowAnswer (c .values) f → ValueAnswer (l .file) (valueAt l c name k) (valueSpan l c name k) (valuePart l c name k)
+    by _ e (RowAnswer.at row low high) =
+        let p : Inside (l .file) (l .tokens) (c .tokens) (wordOf (l .values) 3 row 2) = part-inside _ _ _ _ (found-row l c name k (record { refusal = 0; row = row }) (sym e) refl .inside) in
+        rw (e, p .content-is) (ValueAnswer.at _ _ _ _ (p .ordered) (p .within))
+    by _ e RowAnswer.nowhere = rw e ValueAnswer.nowhere
+    by _ e RowAnswer.outside = rw e ValueAnswer.outside
+
+answer-part : {file : List ℕ} {v : Value} {s : Span} {part : List ℕ} → ValueAnswer file v s part → take (s .end - s .start) (drop (s .start) file) ≡ part
+answer-part (ValueAnswer.at kind packet start end ordered within) = refl
+answer-part ValueAnswer.nowhere = refl
+answer-part ValueAnswer.outside = refl
+
+pub span-part : SpanPart
+span-part l c name k = answer-part (values-answer l c name k)
