@@ -1,12 +1,29 @@
 -- The demands hold: each sentence is proved by the crate that states it.
+use Rattle.star_read.proofs.Demand1.{read-answers}
 use Rattle.star_read.proofs.Demand3.{accepted-exactly, one-reading, rows-of-reading, place-of-refusal}
-use Rattle.star_read.proofs.RefusalNumber.{refusal-number}
+use Rattle.star_read.proofs.RefusalNumber.{refusal-number, numbers-exclude}
+use Rattle.star_read.proofs.Settled.{reading-settled, one-outcome}
+use Rattle.star_find.proofs.Demand1.{lookups-answer, values-answer, span-part}
 use Rattle.star_find.proofs.Lookup.{lookup-by-name, lookup-block, lookup-frame, values-in-order}
+use Rattle.star_write.proofs.Demand1.{write-answers}
 use Rattle.star_write.proofs.RoundTrip.{round-trip, writes-again}
-use Rattle.star.specs.Demands.{Demand2, Demand3}
+use Rattle.star.specs.Demands.{Demand1, Demand2, Demand3}
+
+pub demand-1 : Demand1
+demand-1 = (read-answers, lookups-answer, values-answer, write-answers)
 
 pub demand-2 : Demand2
-demand-2 = (rows-of-reading, lookup-block, lookup-frame, values-in-order, round-trip, writes-again)
+demand-2 = (rows-of-reading, lookup-block, lookup-frame, values-in-order, span-part, round-trip, writes-again)
 
 pub demand-3 : Demand3
-demand-3 = (accepted-exactly, one-reading, rows-of-reading, place-of-refusal, refusal-number, lookup-by-name)
+demand-3 = (
+  accepted-exactly,
+  one-reading,
+  rows-of-reading,
+  place-of-refusal,
+  refusal-number,
+  numbers-exclude,
+  lookup-by-name,
+  reading-settled,
+  one-outcome,
+)

@@ -1,13 +1,19 @@
 -- The demands on the library, whole: each is the product of its sentences, which the crates below state.
-use Rattle.star_read.specs.Demands.{AcceptedExactly, OneReading, RowsOfReading, PlaceOfRefusal, RefusalNumber}
-use Rattle.star_find.specs.Demands.{LookupByName, LookupBlock, LookupFrame, ValuesInOrder}
-use Rattle.star_write.specs.Demands.{RoundTrip, WritesAgain}
+use Rattle.star_read.specs.Demands.{AcceptedExactly, OneReading, RowsOfReading, PlaceOfRefusal, RefusalNumber, NumbersExclude, ReadingSettled, OneOutcome, ReadAnswers}
+use Rattle.star_find.specs.Demands.{LookupByName, LookupBlock, LookupFrame, ValuesInOrder, SpanPart, LookupsAnswer, ValuesAnswer}
+use Rattle.star_write.specs.Demands.{RoundTrip, WritesAgain, WriteAnswers}
 
--- an accepted file gives the rows of its reading; blocks, frames and values are found in them; the plain form reads back the same, and is written again
--- as the same bytes
+-- for every input of every call the number is 0 or one that the call may give, with its place in range; on a refusal what was lent for writing is 0,
+-- and so are counts, length, kind, packet and row; reading and writing answer 0 only with a reading
+abbrev pub Demand1 : Type 0
+Demand1 = ReadAnswers × LookupsAnswer × ValuesAnswer × WriteAnswers
+
+-- an accepted file gives the rows of its reading; blocks, frames and values are found in them, each value as that part of the file; the plain form
+-- reads back the same, and is written again as the same bytes
 abbrev pub Demand2 : Type 0
-Demand2 = RowsOfReading × LookupBlock × LookupFrame × ValuesInOrder × RoundTrip × WritesAgain
+Demand2 = RowsOfReading × LookupBlock × LookupFrame × ValuesInOrder × SpanPart × RoundTrip × WritesAgain
 
--- accepted exactly what has a reading; one reading; its tables; the place and number of a refusal; lookup by name
+-- accepted exactly what has a reading; one reading; its tables; the place and number of a refusal, of which one alone holds; lookup by name; and, for
+-- any file and any tables, what reading gives, of which there is one
 abbrev pub Demand3 : Type 0
-Demand3 = AcceptedExactly × OneReading × RowsOfReading × PlaceOfRefusal × RefusalNumber × LookupByName
+Demand3 = AcceptedExactly × OneReading × RowsOfReading × PlaceOfRefusal × RefusalNumber × NumbersExclude × LookupByName × ReadingSettled × OneOutcome

@@ -3,13 +3,16 @@
 use mathlib.Core.Path.{_≡_}
 use mathlib.Core.List.{List}
 use Prim.Native.Nat.{ℕ, _*_, _≤_}
-use lib.ListN.{length}
+use lib.ListN.{length, replicate}
 use Rattle.star_lex.specs.Tokens.{Placed}
 use Rattle.star_grammar.specs.Tables.{Rows}
 use Rattle.star_read.specs.Read.{Sizes, tokensOnly, readOf}
 use Rattle.star_read.specs.Read as Read
-use Rattle.star_read.specs.Demands.{Room}
+use Rattle.star_read.specs.Answer.{Tables, zeroTables, tablesOf}
+use Rattle.star_read.specs.Demands.{Room, Numbered, HasReading}
 use Rattle.star_write.specs.Write.{writeOf, written}
+use Rattle.star_write.specs.Answer.{answerOf, readingOf, outputOf}
+use Rattle.star_write.specs.declared.Written.{Written}
 
 -- what the plain form is read as: the same kinds and contents, and the same rows of tables 2 to 5
 pub record ReadsBack (plain : List ℕ) (words : Sizes) (ps : List Placed) (rows : Rows) : Type 0 where
@@ -27,3 +30,21 @@ WritesAgain = (file : List ℕ) (words : Sizes) (room : ℕ) (ps : List Placed) 
     → writeOf file words room ≡ written ps rows plain
     → (others : Sizes) → length ps * 3 ≤ others .tokens → Room others rows → (space : ℕ) → length plain ≤ space
     → (tokens : List Placed) × (writeOf plain others space ≡ written tokens rows plain)
+
+-- the numbers that the writer gives, each with its places: reading's, 1 at 0, and 7 at 6
+pub data WriteNumbered (size : ℕ) : (number place : ℕ) → Type 0 where
+  as-reading : (n place : ℕ) → Numbered size n place → WriteNumbered size n place
+  output : WriteNumbered size 7 6
+
+-- demand 1, of the writer: its answer is 0 and 0 only with a reading; else one of the numbers with its place, no length and no rows, and every
+-- word and every byte 0
+pub data WriteAnswer (file : List ℕ) (words : Sizes) (room : ℕ) : Written → Tables → (out : List ℕ) → Type 0 where
+  acceptance : (w : Written) (t : Tables) (out : List ℕ) → w .refusal ≡ 0 → w .place ≡ 0 → HasReading file → WriteAnswer file words room w t out
+  refusal : (n place : ℕ) → WriteNumbered (length file) n place
+      → WriteAnswer file words room
+      (record { refusal = n; place = place; length = 0; tokens = 0; sets = 0; names = 0; packets = 0; values = 0 }) (zeroTables words) (replicate room 0)
+
+abbrev pub WriteAnswers : Type 0
+WriteAnswers = (file : List ℕ) (words : Sizes) (room : ℕ)
+    → WriteAnswer file words room (answerOf (writeOf file words room)) (tablesOf (readingOf (writeOf file words room)) words)
+    (outputOf (writeOf file words room) room)
