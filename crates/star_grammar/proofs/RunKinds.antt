@@ -1,15 +1,18 @@
 -- Runs read kinds alone: the tokens of a table run as those of the file whose rows it holds.
 use mathlib.Core.Path.{_≡_, refl, sym, ap, _∙_}
+use mathlib.Core.Bool.{true, and-eq-true-iff}
 use mathlib.Core.List.{List, [], _∷_, _++_, map, flatMap}
-use Prim.Native.Nat.{ℕ, zero, suc, _*_, _<_}
+use Prim.Native.Nat.{ℕ, zero, suc, _*_, _≤_, _<_}
 use native.Mathlib.Omega.{arith}
+use borrow.Author.Tests.{leb-true, le-leb}
+use lib.Dec.{leb}
 use lib.ListN.{length, getD, drop}
 use lib.Seq.{getD-drop}
 use Rattle.star_lex.specs.Tokens.{Token, Placed, tokenRow}
 use Rattle.star_rows.specs.Rows.{holding}
-use Rattle.star_grammar.specs.Tables.{Rows}
-use Rattle.star_grammar.specs.Machine.{sortOf, State, Step, go, refuse, step, run}
-use Rattle.star_grammar.specs.Parsed.{kindTokens}
+use Rattle.star_grammar.specs.Tables.{Rows, noRows}
+use Rattle.star_grammar.specs.Machine.{sortOf, State, Step, go, refuse, step, run, start}
+use Rattle.star_grammar.specs.Parsed.{kindTokens, hasRows, rowsRun}
 use Rattle.star_grammar.proofs.Sorts.{onward, run-onward}
 
 onward-kinds : (limit : ℕ) (ts us : List Token) (r : Rows) → ((s : State) (r′ : Rows) → run limit s ts r′ ≡ run limit s us r′)
@@ -62,3 +65,15 @@ kind-at zero words at d h = absurd (omega arith)
 kind-at (suc n) words zero d h = refl
 kind-at (suc n) words (suc at) d h =
     kind-at n (drop 3 words) at d (omega arith) ∙ getD-drop 3 words (at * 3) 0 ∙ ap (λ k. getD words k 0) (omega arith)
+
+-- a table that has the rows
+pub has-rows-fits : (count words : ℕ) → hasRows count words ≡ true → (count * 3 ≤ words) × (count ≤ 1048576)
+unfolding hasRows
+has-rows-fits count words e =
+    let (a, b) = (and-eq-true-iff (leb (count * 3) words) (leb count 1048576)) .0 e in
+    (leb-true _ _ a, leb-true _ _ b)
+
+pub rows-run : (count : ℕ) (words : List ℕ) → count * 3 ≤ length words → count ≤ 1048576
+    → rowsRun count words ≡ run 8 start (kindTokens count words) noRows
+unfolding rowsRun hasRows
+rows-run count words h k = rw (le-leb (count * 3) (length words) h, le-leb count 1048576 k)

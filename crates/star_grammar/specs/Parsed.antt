@@ -1,18 +1,28 @@
 -- What reading the rows of tables 2 to 5 from the kinds of table 1 answers: what a run of the machine over those kinds gives.
 use mathlib.Core.Path.{_≡_}
+use mathlib.Core.Bool.{Bool, cond, _&&_}
 use mathlib.Core.List.{List, [], _∷_}
-use Prim.Native.Nat.{ℕ, zero, suc}
+use Prim.Native.Nat.{ℕ, zero, suc, _*_}
+use lib.Dec.{leb}
 use lib.ListN.{length, getD, drop}
 use Rattle.star_lex.specs.Tokens.{Token}
 use Rattle.star_rows.specs.Rows.{stored}
-use Rattle.star_grammar.specs.Tables.{Rows, setWords, nameWords, packetWords, valueWords}
-use Rattle.star_grammar.specs.Machine.{Run, bad, good}
+use Rattle.star_grammar.specs.Tables.{Rows, noRows, setWords, nameWords, packetWords, valueWords}
+use Rattle.star_grammar.specs.Machine.{Run, bad, good, run, start}
 use Rattle.star_grammar.specs.declared.Parsed.{Parsed}
 
 -- the tokens of a table of that many rows of kind, start and end: their kinds, and no contents, which no step reads
 unfoldable pub kindTokens : ℕ → List ℕ → List Token
 kindTokens zero words = []
 kindTokens (suc n) words = record { kind = getD words 0 0; content = [] } ∷ kindTokens n (drop 3 words)
+
+-- a table of so many words has that many rows of tokens, at most one for each byte that a file may have
+unfoldable pub hasRows : (count words : ℕ) → Bool
+hasRows count words = leb (count * 3) words && leb count 1048576
+
+-- the run over the first rows of a table; 14 where it has not that many
+unfoldable pub rowsRun : (count : ℕ) → List ℕ → Run
+rowsRun count words = cond (hasRows count (length words)) (run 8 start (kindTokens count words) noRows) (bad 14 0)
 
 -- the words of tables 2 to 5
 pub record FourTables : Type 0 where

@@ -5,13 +5,17 @@ mod progress;
 
 use progress::Progress;
 ghost use mathlib.Core.Path.{_≡_};
+ghost use mathlib.Core.Bool.{false};
 ghost use mathlib.Core.List.{List};
 ghost use Prim.Native.Nat.{ℕ, _+_, _*_, _≤_};
 ghost use lib.ListN.{length};
 ghost use Rattle.star_grammar.specs.Tables.{noRows};
 ghost use Rattle.star_grammar.specs.Machine.{Where, inBlock, setOf, start, within, run};
-ghost use Rattle.star_grammar.specs.Parsed.{kindTokens, tables, Answers};
+ghost use Rattle.star_grammar.specs.Parsed.{kindTokens, tables, hasRows, rowsRun, Refused, Answers};
 ghost use Rattle.star_grammar.specs.Reader.{Ahead, NoEntry, Ready, Onward, Leads, Whole};
+
+// The most tokens that a file can have: one for each byte.
+const LIMIT: usize = 1048576;
 
 // What reading the rows answers: refusal, 0 when accepted; how many tokens stand before the bad one, or all of them; and the row counts.
 pub struct Parsed {
@@ -171,8 +175,32 @@ fn read_blocks(
     p
 }
 
-// Reads the rows of the tables from the kinds of the tokens. Called by proved layers only: the table has that many token rows, and there are at
-// most 1,048,576.
+// Whether a table of so many words has that many rows of tokens, at most one for each byte that a file may have.
+fn has_rows(count: usize, words: usize) -> bool
+    ensures { λ r. ⌜ r ≡ hasRows count words ⌝ }
+{
+    if words / 3 < count {
+        return false;
+    }
+    count <= LIMIT
+}
+
+// A refusal has no rows.
+fn refused(refusal: u32, tokens: usize) -> Parsed
+    ensures { λ r. ⌜ Refused refusal tokens r ⌝ }
+{
+    Parsed {
+        refusal,
+        tokens,
+        sets: 0,
+        names: 0,
+        packets: 0,
+        values: 0,
+    }
+}
+
+// Reads the rows of the tables from the kinds of the first tokens of table 1. Refusal 14, with nothing stored, where the table has not that many, or
+// where they are more than a file can have.
 pub fn read_rows(
     tokens: &[u32],
     count: usize,
@@ -181,30 +209,26 @@ pub fn read_rows(
     packets: &mut [u32],
     values: &mut [u32],
 ) -> Parsed
-    requires { ⌜ count * 3 ≤ length (now tokens) ⌝ }
-    requires { ⌜ count ≤ 1048576 ⌝ }
-    ensures { λ r. ⌜ Answers count (run 8 start (kindTokens count (now (tokens .entry))) noRows)
+    ensures { λ r. ⌜ Answers count (rowsRun count (now (tokens .entry)))
         (tables (now (sets .entry)) (now (names .entry)) (now (packets .entry)) (now (values .entry))) r
         (tables (now (sets .exit)) (now (names .exit)) (now (packets .exit)) (now (values .exit))) ⌝ }
+    ensures { λ _. ⌜ (hasRows count (length (now (tokens .entry))) ≡ false
+        → tables (now (sets .exit)) (now (names .exit)) (now (packets .exit)) (now (values .exit))
+        ≡ tables (now (sets .entry)) (now (names .entry)) (now (packets .entry)) (now (values .entry))) ⌝ }
 {
+    if !has_rows(count, tokens.len()) {
+        return refused(14, 0);
+    }
     let p = read_blocks(tokens, count, sets, names, packets, values);
-    if p.refusal == 0 {
-        Parsed {
-            refusal: 0,
-            tokens: count,
-            sets: p.sets,
-            names: p.names,
-            packets: p.packets,
-            values: p.values,
-        }
-    } else {
-        Parsed {
-            refusal: p.refusal,
-            tokens: p.at as usize,
-            sets: 0,
-            names: 0,
-            packets: 0,
-            values: 0,
-        }
+    if p.refusal != 0 {
+        return refused(p.refusal, p.at as usize);
+    }
+    Parsed {
+        refusal: 0,
+        tokens: count,
+        sets: p.sets,
+        names: p.names,
+        packets: p.packets,
+        values: p.values,
     }
 }

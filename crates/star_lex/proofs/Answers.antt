@@ -1,11 +1,11 @@
 -- What the checks in their order answer: each answers the definition where those before it have passed.
-use mathlib.Core.Path.{_≡_, refl, ap}
+use mathlib.Core.Path.{_≡_, refl, sym, _∙_, ap}
 use mathlib.Core.Bool.{true}
 use mathlib.Core.List.{List}
-use Prim.Native.Nat.{ℕ, _/_, _≤_, _<_}
+use Prim.Native.Nat.{ℕ, _/_, _*_, _≤_, _<_}
 use native.Mathlib.Omega.{arith}
-use borrow.Author.Tests.{lt-ltb, le-ltb, le-leb, lt-leb, ltb-true}
-use lib.Dec.{ltb}
+use borrow.Author.Tests.{lt-ltb, le-ltb, le-leb, lt-leb, leb-true, ltb-true}
+use lib.Dec.{leb, ltb}
 use lib.ListN.{length}
 use Rattle.star_text.specs.Bytes.{firstRefused}
 use Rattle.star_rows.proofs.Stored.{room}
@@ -13,7 +13,7 @@ use Rattle.star_lex.specs.Tokens.{Placed}
 use Rattle.star_lex.specs.Split.{Split, refused, accepted, split, tokensOf}
 use Rattle.star_lex.specs.Found.{fitting, tokensIn, answerOf}
 use Rattle.star_lex.specs.declared.Tokens.{Tokens}
-use Rattle.star_lex.proofs.Cases.{cond-cases}
+use Rattle.star_lex.proofs.Cases.{impossible, cond-cases}
 use Rattle.star_lex.proofs.Splitting.{Faulty, split-refused}
 
 module _ (file : List ℕ) (words : ℕ) where
@@ -65,3 +65,57 @@ fitting-full words ps h = rw (room 3 (length ps) words (omega arith), lt-leb (le
 pub fitting-room : (words : ℕ) (ps : List Placed) → length ps ≤ words / 3 → fitting words (accepted ps) ≡ accepted ps
 unfolding fitting
 fitting-room words ps h = rw (room 3 (length ps) words (omega arith), le-leb (length ps) (words / 3) h)
+
+-- tokens that fit are those of the file
+pub tokens-accepted : (file : List ℕ) (words : ℕ) (ps : List Placed) → tokensIn file words ≡ accepted ps → tokensOf file ≡ accepted ps
+unfolding tokensIn fitting
+tokens-accepted file words ps e =
+    cond-cases (leb (length file) 1048576) _ _ (accepted ps) e (λ d. fits (tokensOf file)) (λ d h. impossible cc)
+  where
+    fits : (s : Split) → fitting words s ≡ accepted ps → s ≡ accepted ps
+    fits (refused n place) h = impossible cc
+    fits (accepted qs) h = cond-cases (leb (length qs * 3) words) _ _ (accepted ps) h (λ d k. k) (λ d k. impossible cc)
+
+-- a refusal of the tokens is not 0
+tokens-number : (file : List ℕ) (n place : ℕ) → tokensOf file ≡ refused n place → n ≡ 0 → ⊥
+unfolding tokensOf
+tokens-number file n place e z =
+    cond-cases (ltb (firstRefused file) (length file)) _ _ _ e
+    (λ q h. let k : 2 ≡ n = cc in omega arith)
+    (λ q h. omega (arith, split-refused 0 true 0 file n place h .0))
+
+fitting-number : (file : List ℕ) (words n place : ℕ) (s : Split) → tokensOf file ≡ s → fitting words s ≡ refused n place → n ≡ 0 → ⊥
+unfolding fitting
+fitting-number file words n place (refused m q) d e z = let k : m ≡ n = cc in tokens-number file m q d (k ∙ z)
+fitting-number file words n place (accepted ps) d e z =
+    cond-cases (leb (length ps * 3) words) _ _ _ e (λ q h. impossible cc) (λ q h. let k : 7 ≡ n = cc in omega arith)
+
+pub in-number : (file : List ℕ) (words n place : ℕ) → tokensIn file words ≡ refused n place → n ≡ 0 → ⊥
+unfolding tokensIn
+in-number file words n place e z =
+    cond-cases (leb (length file) 1048576) _ _ _ e
+    (λ q h. fitting-number file words n place (tokensOf file) refl h z)
+    (λ q h. let k : 1 ≡ n = cc in omega arith)
+
+-- no refusal: the tokens
+pub in-accepted : (file : List ℕ) (words : ℕ) (r : Tokens) → r ≡ answerOf (tokensIn file words) → r .refusal ≡ 0
+    → (ps : List Placed) × (tokensIn file words ≡ accepted ps) × (r .count ≡ length ps)
+unfolding answerOf
+in-accepted file words r e z = go (tokensIn file words) refl e
+  where
+    go : (s : Split) → tokensIn file words ≡ s → r ≡ answerOf s → (ps : List Placed) × (tokensIn file words ≡ accepted ps) × (r .count ≡ length ps)
+    go (refused n place) q d = absurd (in-number file words n place q (sym (ap (λ t. t .refusal) d) ∙ z))
+    go (accepted ps) q d = (ps, q, ap (λ t. t .count) d)
+
+fitting-within : (words : ℕ) (s : Split) (ps : List Placed) → fitting words s ≡ accepted ps → length ps * 3 ≤ words
+unfolding fitting
+fitting-within words (refused n place) ps e = impossible cc
+fitting-within words (accepted qs) ps e =
+    cond-cases (leb (length qs * 3) words) _ _ _ e (λ q h. let k : qs ≡ ps = cc in rw (← k) (leb-true _ _ q)) (λ q h. impossible cc)
+
+pub in-fits : (file : List ℕ) (words : ℕ) (ps : List Placed) → tokensIn file words ≡ accepted ps → (length file ≤ 1048576) × (length ps * 3 ≤ words)
+unfolding tokensIn
+in-fits file words ps e =
+    cond-cases (leb (length file) 1048576) _ _ _ e
+    (λ q h. (leb-true _ _ q, fitting-within words (tokensOf file) ps h))
+    (λ q h. impossible cc)

@@ -8,11 +8,12 @@ use native.Mathlib.Nat.{add-zero, add-suc, suc-add}
 use native.Mathlib.Numerals.{add-one}
 use native.Mathlib.Omega.{arith}
 use borrow.Author.Tests.{not-true, not-false}
-use lib.Dec.{eqb, ltb}
+use lib.Dec.{eqb}
 use lib.ListN.{length, getD, drop, drop-of-length-le}
 use lib.Seq.{drop-cons}
-use Rattle.star_text.specs.Bytes.{isTerminate, isWhite, classOf, run}
-use Rattle.star_text.proofs.Run.{run-keeps, run-fails, below-terminate}
+use Rattle.star_text.specs.Bytes.{isTerminate, isWhite, Classes, belowIn, run}
+use Rattle.star_text.proofs.Classes.{below-terminate}
+use Rattle.star_text.proofs.Run.{run-keeps, run-fails}
 use Rattle.star_lex.specs.Split.{quoted, field, starts, whiteNext}
 use Rattle.star_lex.specs.Found.{endOf}
 use Rattle.star_lex.specs.LineEnd.{LineEnd}
@@ -74,16 +75,16 @@ module _ (size : ℕ) (file : List ℕ) (at : ℕ) where
   field-over h = rw (drop-of-length-le file h)
 
 -- the next line end from a place on, by the run of bytes that end no line
-pub line-end : (file : List ℕ) (from : ℕ) → ((i : ℕ) → getD file i 0 < 256)
-    → LineEnd file from (from + length (run (λ b. ltb (classOf b) 3) (drop from file)))
-line-end file from bytes = record {
+pub line-end : {table : List ℕ} → Classes table → (file : List ℕ) (from : ℕ) → ((i : ℕ) → getD file i 0 < 256)
+    → LineEnd file from (from + length (run (belowIn table 3) (drop from file)))
+line-end {table} c file from bytes = record {
   further = omega arith;
-  ends = λ h. not-false _ (sym (below-terminate (getD file (from + size) 0) (bytes (from + size))) ∙ run-fails below file size from refl h);
+  ends = λ h. not-false _ (sym (below-terminate c (getD file (from + size) 0) (bytes (from + size))) ∙ run-fails below file size from refl h);
   closes = sym (run-keeps below file (λ m. endOf (length file) m (field (drop m file))) over size from refl);
 }
   where
     below : ℕ → Bool
-    below b = ltb (classOf b) 3
+    below b = belowIn table 3 b
 
     size : ℕ
     size = length (run below (drop from file))
@@ -91,5 +92,5 @@ line-end file from bytes = record {
     over : (m : ℕ) → m < length file → below (getD file m 0) ≡ true
         → endOf (length file) m (field (drop m file)) ≡ endOf (length file) (m + 1) (field (drop (m + 1) file))
     over m h e =
-        let plain : isTerminate (getD file m 0) ≡ false = not-true (isTerminate (getD file m 0)) (sym (below-terminate (getD file m 0) (bytes m)) ∙ e) in
+        let plain : isTerminate (getD file m 0) ≡ false = not-true (isTerminate (getD file m 0)) (sym (below-terminate c (getD file m 0) (bytes m)) ∙ e) in
         field-at (length file) file m h ∙ rw plain

@@ -8,11 +8,12 @@ use Prim.Native.Nat.{ℕ, suc, _+_, _-_, _≤_, _<_}
 use native.Mathlib.Nat.{zero-add}
 use native.Mathlib.Numerals.{add-one}
 use native.Mathlib.Omega.{arith}
-use lib.Dec.{leb, ltb}
+use lib.Dec.{leb}
 use lib.ListN.{length, getD, take, drop, length-append, length-drop}
 use lib.Seq.{drop-cons, drop-drop, getD-drop}
-use Rattle.star_text.specs.Bytes.{isWhite, classOf, run}
-use Rattle.star_text.proofs.Run.{run-agree, run-take, below-white}
+use Rattle.star_text.specs.Bytes.{isWhite, Classes, belowIn, run}
+use Rattle.star_text.proofs.Classes.{run-word}
+use Rattle.star_text.proofs.Run.{run-take}
 use Rattle.star_lex.specs.Tokens.{opening, dataWord, saveWord, loopWord, stopWord, globalWord}
 use Rattle.star_lex.specs.Split.{Lexeme, gap, token, faulty, after, either, quoted, field, whiteNext, limited, blockWord, frameWord, alone, nameWord, referenceWord, wordLexeme, quotedLexeme, fieldLexeme}
 use Rattle.star_lex.specs.Found.{foundAt, endOf, kindOf}
@@ -212,13 +213,12 @@ word-ill at more n w e = go (wordLexeme more w) (word-shaped more w) e
     go (faulty k) h q = let p : n ≡ k = cc in ap Fault (sym p)
 
 -- the part of the file from a byte up to white space
-pub word-part : (file : List ℕ) (at end : ℕ) → at < length file → ((i : ℕ) → getD file i 0 < 256)
-    → end ≡ at + 1 + length (run (λ b. ltb (classOf b) 2) (drop (at + 1) file))
+pub word-part : {table : List ℕ} → Classes table → (file : List ℕ) (at end : ℕ) → at < length file → ((i : ℕ) → getD file i 0 < 256)
+    → end ≡ at + 1 + length (run (belowIn table 2) (drop (at + 1) file))
     → (end ≡ at + 1 + length (run (λ c. not (isWhite c)) (drop (at + 1) file)))
     × (take (end - at) (drop at file) ≡ getD file at 0 ∷ run (λ c. not (isWhite c)) (drop (at + 1) file))
-word-part file at end h bytes e =
-    let same : run (λ b. ltb (classOf b) 2) (drop (at + 1) file) ≡ run (λ c. not (isWhite c)) (drop (at + 1) file) =
-    run-agree (λ b. ltb (classOf b) 2) (λ c. not (isWhite c)) below-white (drop (at + 1) file) (λ i. rw getD-drop (bytes (at + 1 + i))) in
-    let f : end ≡ at + 1 + length (run (λ c. not (isWhite c)) (drop (at + 1) file)) = e ∙ ap (λ r. at + 1 + length r) same in
+word-part c file at end h bytes e =
+    let f : end ≡ at + 1 + length (run (λ c. not (isWhite c)) (drop (at + 1) file)) =
+    e ∙ ap (λ r. at + 1 + length r) (run-word c (drop (at + 1) file) (λ i. rw getD-drop (bytes (at + 1 + i)))) in
     let n : end - at ≡ suc (length (run (λ c. not (isWhite c)) (drop (at + 1) file))) = omega arith in
     (f, rw (n, drop-cons file at 0 h, ← add-one at) (ap (λ r. getD file at 0 ∷ r) (run-take (λ c. not (isWhite c)) (drop (at + 1) file))))

@@ -10,5 +10,6 @@ pub mod Parts
 pub mod PlainSplit
 pub mod Splitting
 pub mod Steps
+pub mod Table
 pub mod WellFormed
 pub mod Words

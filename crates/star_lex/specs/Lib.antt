@@ -4,3 +4,4 @@ pub mod Plain
 pub mod WellFormed
 pub mod Found
 pub mod LineEnd
+pub mod Table

@@ -14,6 +14,7 @@ ghost use Rattle.star_text.specs.Bytes.{Classes, isWhite};
 ghost use Rattle.star_lex.specs.Tokens.{Placed, tokenRow, opening};
 ghost use Rattle.star_lex.specs.Split.{refused, accepted, quoted, field, fieldLexeme, quotedLexeme, wordFrom, split as Split·split, lexeme as Split·lexeme};
 ghost use Rattle.star_lex.specs.Found.{tokensIn, answerOf, tableOf, foundAt};
+ghost use Rattle.star_lex.specs.Table.{contentIn};
 
 // The most bytes that a file may have.
 const LIMIT: usize = 1048576;
@@ -216,4 +217,23 @@ pub fn read_tokens(file: &[u8], table: &mut [u32]) -> Tokens
     }
     star_rows::clear_from(table, count * 3);
     found
+}
+
+// The content of the token in row `n` of table 1, counted from 0: the part of the file that the row spans. It is empty where the table has no such
+// row, and where the span is no part of the file.
+pub fn content<'a>(file: &'a [u8], tokens: &[u32], n: usize) -> &'a [u8]
+    ensures { λ r. ⌜ now r ≡ contentIn (now (file .entry)) (now (tokens .entry)) n ⌝ }
+{
+    if tokens.len() / 3 <= n {
+        return &file[0..0];
+    }
+    let start = tokens[n * 3 + 1] as usize;
+    let end = tokens[n * 3 + 2] as usize;
+    if end < start {
+        return &file[0..0];
+    }
+    if file.len() < end {
+        return &file[0..0];
+    }
+    &file[start..end]
 }

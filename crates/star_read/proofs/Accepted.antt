@@ -11,18 +11,19 @@ use Rattle.star_lex.specs.Split.{Split}
 use Rattle.star_lex.specs.Split as Split
 use Rattle.star_lex.specs.Found.{tokensIn, tableOf}
 use Rattle.star_lex.proofs.Splitting.{row-wide}
+use Rattle.star_lex.proofs.Answers.{tokens-accepted, in-number, in-fits}
 use Rattle.star_grammar.specs.Tables.{Rows, noRows}
 use Rattle.star_grammar.specs.Machine.{run, start}
 use Rattle.star_unique.specs.Holds.{Holds}
 use Rattle.star_unique.specs.Repeat.{nothing, firstRepeat}
+use Rattle.star_unique.proofs.Comparing.{table-holds}
 use Rattle.star_read.specs.Read.{Outcome, refused, accepted, Sizes, tokensOnly, grammarOf, after, readOf}
 use Rattle.star_read.specs.Answer.{answerOf, judgedOf}
 use Rattle.star_read.specs.declared.Reading.{Reading}
 use Rattle.star_read.proofs.Demand3.{rows-of-reading}
-use Rattle.star_read.proofs.Fitting.{refused≢accepted, tokens-accepted}
+use Rattle.star_read.proofs.Fitting.{refused≢accepted}
 use Rattle.star_read.proofs.Judging.{run-number}
 use Rattle.star_read.proofs.Settling.{Settled, settled}
-use Rattle.star_read.proofs.Starting.{in-number, in-fits, table-holds}
 
 pub read-number : (file : List ℕ) (w : Sizes) (n place : ℕ) → readOf file w ≡ refused n place → n ≡ 0 → ⊥
 unfolding readOf after grammarOf judgedOf
@@ -65,6 +66,6 @@ module _ (file : List ℕ) (w : Sizes) (ps : List Placed) (rows : Rows) (e : rea
   pub accepted-holds : Holds file (holding tokenRow ps (w .tokens)) (length ps)
   unfolding tableOf
   accepted-holds =
-      table-holds file _ (w .tokens) (length ps) ps table-tokens refl
+      table-holds file (w .tokens) ps table-tokens _ (length ps) refl
       (length-holding 3 tokenRow row-wide (omega arith) ps (w .tokens) (in-fits file (w .tokens) ps table-tokens .1))
       (sym (ap (λ s. tableOf s (w .tokens)) table-tokens))

@@ -13,6 +13,7 @@ use Rattle.star_lex.specs.Split as Split
 use Rattle.star_lex.specs.Found.{tokensIn}
 use Rattle.star_lex.proofs.Cases.{impossible}
 use Rattle.star_lex.proofs.WellFormed.{split-well-formed}
+use Rattle.star_lex.proofs.Answers.{tokens-accepted}
 use Rattle.star_grammar.specs.Tables.{Rows, noRows, rowsOf}
 use Rattle.star_grammar.specs.Reading.{Reading}
 use Rattle.star_grammar.specs.Machine.{start, good, run}
@@ -23,7 +24,7 @@ use Rattle.star_read.specs.Read.{Outcome, refused, accepted, Sizes, toke
 use Rattle.star_read.specs.Demands.{Fair, FirstBad, Bad, AcceptedExactly, OneReading, RowsOfReading, PlaceOfRefusal}
 use Rattle.star_read.proofs.Readings.{reading-run, reading-clean, run-reading}
 use Rattle.star_read.proofs.Verdict.{Verdict, verdict}
-use Rattle.star_read.proofs.Fitting.{refused≢accepted, tokenized-read, tokens-accepted, room-fits, fits-accepted}
+use Rattle.star_read.proofs.Fitting.{refused≢accepted, tokenized-read, room-fits, fits-accepted}
 use Rattle.star_read.proofs.FairFile.{accepted-fits}
 use Rattle.star_read.proofs.FirstBad.{verdict-bad}
 

@@ -26,16 +26,6 @@ unfolding readOf after tokensIn Found.fitting
 tokenized-read file words ps f =
     rw (le-leb (length file) 1048576 (f .small), f .splits, le-leb (length ps * 3) (words .tokens) (f .room))
 
--- tokens that fit are those of the file
-pub tokens-accepted : (file : List ℕ) (words : ℕ) (ps : List Placed) → tokensIn file words ≡ Split.accepted ps → tokensOf file ≡ Split.accepted ps
-unfolding tokensIn Found.fitting
-tokens-accepted file words ps e =
-    cond-cases (leb (length file) 1048576) _ _ (Split.accepted ps) e (λ d. fits (tokensOf file)) (λ d h. impossible cc)
-  where
-    fits : (s : Split) → Found.fitting words s ≡ Split.accepted ps → s ≡ Split.accepted ps
-    fits (Split.refused n place) h = impossible cc
-    fits (Split.accepted qs) h = cond-cases (leb (length qs * 3) words) _ _ (Split.accepted ps) h (λ d k. k) (λ d k. impossible cc)
-
 pub room-fits : (words : Sizes) (ps : List Placed) (rows : Rows) → Room words rows → fitting words (accepted ps rows) ≡ accepted ps rows
 unfolding fitting
 room-fits words ps rows r =

@@ -13,12 +13,13 @@ use Rattle.star_lex.specs.Tokens.{Placed, tokenRow}
 use Rattle.star_lex.specs.Split.{placed, tokensOf}
 use Rattle.star_grammar.specs.Tables.{Rows, noRows, setWords, nameWords, packetWords, valueWords}
 use Rattle.star_grammar.specs.Machine.{Run, bad, good, run, start}
-use Rattle.star_grammar.specs.Parsed.{FourTables, Answers, Accepted, kindTokens}
+use Rattle.star_grammar.specs.Parsed.{FourTables, Answers, Accepted, kindTokens, rowsRun}
 use Rattle.star_grammar.specs.declared.Parsed.{Parsed}
 use Rattle.star_grammar.proofs.Counted.{set-wide, name-wide, packet-wide, value-wide}
-use Rattle.star_grammar.proofs.RunKinds.{run-holding}
+use Rattle.star_grammar.proofs.RunKinds.{run-holding, rows-run}
 use Rattle.star_unique.specs.Holds.{Holds, fileTokens}
 use Rattle.star_unique.specs.Repeat.{nothing, firstRepeat}
+use Rattle.star_unique.proofs.Held.{count-small}
 use Rattle.star_read.specs.Read.{Outcome, refused, accepted, Sizes, decide, fitting, grammarOf}
 use Rattle.star_read.specs.Demands.{Room}
 use Rattle.star_read.specs.Answer.{answerOf, tables, tablesOf, judgedOf, words, Ran, ClearedBehind, Leaves, Tables}
@@ -106,10 +107,11 @@ answer-ran (good rows) count before after r a = (a .refusal, a .tokens, a .sets,
 
 -- the run over the kinds of a table that holds a file's tokens is the run over the tokens
 pub held-run : (file table : List ℕ) (count : ℕ) → Holds file table count
-    → run 8 start (kindTokens count table) noRows ≡ run 8 start (fileTokens file) noRows
+    → rowsRun count table ≡ run 8 start (fileTokens file) noRows
 held-run file table count h =
     let ps : List Placed = placed (tokensOf file) in
-    ap (λ n. run 8 start (kindTokens n table) noRows) (h .count-is)
+    rows-run count table (omega (arith, h .room, h .count-is)) (count-small file table count h)
+    ∙ ap (λ n. run 8 start (kindTokens n table) noRows) (h .count-is)
     ∙ ap (λ t. run 8 start (kindTokens (length ps) t) noRows) (h .rows)
     ∙ run-holding 8 start ps (length table) noRows
 
@@ -127,7 +129,7 @@ same-words : (n : ℕ) (before after : FourTables) → SameSizes before after �
 same-words n before after k = rw (k .sets, k .names, k .packets, k .values)
 
 module _ (file table : List ℕ) (count : ℕ) (h : Holds file table count) (before mid : FourTables) (k : SameSizes before mid) (r : Parsed)
-    (a : Answers count (run 8 start (kindTokens count table) noRows) before r mid) (j : Judged)
+    (a : Answers count (rowsRun count table) before r mid) (j : Judged)
     (e : j ≡ judgedOf (fitting (sizesOf (length table) mid) (grammarOf (length file) (placed (tokensOf file))))) where
   answers : Answers count (run 8 start (fileTokens file) noRows) before r mid
   answers = subst (λ x. Answers count x before r mid) (held-run file table count h) a

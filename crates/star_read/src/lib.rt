@@ -5,6 +5,7 @@ ghost use Rattle.star_lex.specs.Split.{placed, tokensOf};
 ghost use Rattle.star_grammar.specs.Tables.{noRows};
 ghost use Rattle.star_grammar.specs.Machine.{run, start};
 ghost use Rattle.star_unique.specs.Holds.{Holds, fileTokens};
+ghost use Rattle.star_unique.specs.Repeat.{nothing, firstRepeat};
 ghost use Rattle.star_read.specs.Read.{refused, placeOf, fitting, grammarOf, readOf};
 ghost use Rattle.star_read.specs.Answer.{answerOf, tables, sizes, judgedOf, words, roomOf, Ran, Leaves, ClearedBehind};
 ghost use Rattle.star_grammar.specs.Parsed.{tables as four};
@@ -76,11 +77,12 @@ fn room(rows: Parsed, sets: usize, names: usize, packets: usize, values: usize) 
     }
 }
 
-// What the grammar, names and codes, and the room of tables 2 to 5 decide.
+// What the grammar, names and codes, and the room of tables 2 to 5 decide; `taken` tokens stand before the first that is taken.
 fn judge(
     file: &[u8],
-    tokens: &mut [u32],
+    tokens: &[u32],
     count: usize,
+    taken: usize,
     rows: Parsed,
     sets: usize,
     names: usize,
@@ -88,12 +90,11 @@ fn judge(
     values: usize,
 ) -> Judged
     requires { ⌜ Holds (now file) (now tokens) count ⌝ }
+    requires { ⌜ taken ≡ firstRepeat nothing (fileTokens (now file)) ⌝ }
     requires { ⌜ Ran (run 8 start (fileTokens (now file)) noRows) count rows ⌝ }
     ensures { λ r. ⌜ r ≡ judgedOf (fitting (words (length (now (tokens .entry))) sets names packets values)
         (grammarOf (length (now (file .entry))) (placed (tokensOf (now (file .entry)))))) ⌝ }
-    ensures { λ _. ⌜ now (tokens .exit) ≡ now (tokens .entry) ⌝ }
 {
-    let taken = star_unique::first_repeat(file, tokens, count);
     if taken < rows.tokens {
         return Judged {
             refusal: 9,
@@ -158,7 +159,7 @@ fn clear_behind(
     star_rows::clear_from(values, rows.values as usize * 3);
 }
 
-// Reads the rows of a file whose tokens table 1 holds.
+// Reads the rows of a file whose tokens table 1 holds; `taken` of them stand before the first that is taken.
 fn read_tables(
     file: &[u8],
     tokens: &mut [u32],
@@ -167,8 +168,10 @@ fn read_tables(
     packets: &mut [u32],
     values: &mut [u32],
     count: u32,
+    taken: usize,
 ) -> Reading
     requires { ⌜ Holds (now file) (now tokens) count ⌝ }
+    requires { ⌜ taken ≡ firstRepeat nothing (fileTokens (now file)) ⌝ }
     ensures { λ r. ⌜ r ≡ answerOf (fitting (sizes (tables (now (tokens .entry)) (now (sets .entry)) (now (names .entry)) (now (packets .entry)) (now (values .entry))))
         (grammarOf (length (now (file .entry))) (placed (tokensOf (now (file .entry)))))) ⌝ }
     ensures { λ _. ⌜ Leaves (fitting (sizes (tables (now (tokens .entry)) (now (sets .entry)) (now (names .entry)) (now (packets .entry)) (now (values .entry))))
@@ -182,6 +185,7 @@ fn read_tables(
         file,
         tokens,
         n,
+        taken,
         rows,
         sets.len(),
         names.len(),
@@ -227,7 +231,7 @@ pub fn read(
         (sizes (tables (now (tokens .entry)) (now (sets .entry)) (now (names .entry)) (now (packets .entry)) (now (values .entry))))
         (tables (now (tokens .exit)) (now (sets .exit)) (now (names .exit)) (now (packets .exit)) (now (values .exit))) ⌝ }
 {
-    let found = star_lex::read_tokens(file, tokens);
+    let found = star_unique::read_tokens(file, tokens);
     if found.refusal != 0 {
         return refuse(
             tokens,
@@ -239,5 +243,14 @@ pub fn read(
             found.place,
         );
     }
-    read_tables(file, tokens, sets, names, packets, values, found.count)
+    read_tables(
+        file,
+        tokens,
+        sets,
+        names,
+        packets,
+        values,
+        found.count,
+        found.taken,
+    )
 }

@@ -1,25 +1,15 @@
--- The rule of the class table against the ranges of bytes: one test that is computed over all 256 entries, and the law at each entry.
-use mathlib.Core.Path.{_≡_, refl}
-use mathlib.Core.Bool.{Bool, true, false, _&&_, Bool·beq}
-use mathlib.Core.List.{List, [], _∷_}
-use Prim.Native.Nat.{ℕ, zero, suc, _+_, _<_}
-use native.Mathlib.Nat.{le-of-suc-le-suc, not-suc-le-zero, zero-add, suc-add, add-suc, add-zero}
-use lib.Dec.{T, eqb, leb, eqb→eq}
+-- The class table: a table whose 256 entries pass one computed test has the class of each byte, and what such a table says of a byte is so.
+use mathlib.Core.Path.{_≡_, refl, sym, _∙_, ap}
+use mathlib.Core.Bool.{Bool, true, false, not, _&&_, Bool·beq}
+use mathlib.Core.List.{List}
+use Prim.Native.Nat.{ℕ, zero, suc, _<_}
+use native.Mathlib.Nat.{not-suc-le-zero}
+use native.Mathlib.Omega.{arith}
+use borrow.Author.Tests.{eqb-true, eqb-false, lt-ltb, le-ltb, leb-true, leb-false}
+use lib.Dec.{T, eqb, leb, ltb, eqb→eq}
 use lib.ListN.{length, getD}
-use Rattle.star_text.specs.Bytes.{isBlank, isTerminate, isWhite, isPrintable, isAllowed, classOf}
-
--- the entries of the table
-abbrev pub classes : List ℕ
-classes = 0 ∷ 0 ∷ 0 ∷ 0 ∷ 0 ∷ 0 ∷ 0 ∷ 0 ∷ 0 ∷ 2 ∷ 3 ∷ 2 ∷ 3 ∷ 3 ∷ 0 ∷ 0 ∷ 0 ∷ 0 ∷ 0 ∷ 0 ∷ 0 ∷ 0 ∷ 0 ∷ 0 ∷ 0 ∷ 0 ∷ 0 ∷ 0 ∷ 0 ∷ 0 ∷ 0 ∷ 0 ∷ 2 ∷ 1 ∷ 1 ∷ 1 ∷ 1 ∷ 1 ∷ 1 ∷ 1 ∷ 1 ∷ 1 ∷ 1 ∷ 1 ∷ 1 ∷ 1 ∷ 1 ∷ 1 ∷ 1 ∷ 1 ∷ 1 ∷ 1 ∷ 1 ∷ 1 ∷ 1 ∷ 1 ∷ 1 ∷ 1 ∷ 1 ∷ 1 ∷ 1 ∷ 1 ∷ 1 ∷ 1 ∷ 1 ∷ 1 ∷ 1 ∷ 1 ∷ 1 ∷ 1 ∷ 1 ∷ 1 ∷ 1 ∷ 1 ∷ 1 ∷ 1 ∷ 1 ∷ 1 ∷ 1 ∷ 1 ∷ 1 ∷ 1 ∷ 1 ∷ 1 ∷ 1 ∷ 1 ∷ 1 ∷ 1 ∷ 1 ∷ 1 ∷ 1 ∷ 1 ∷ 1 ∷ 1 ∷ 1 ∷ 1 ∷ 1 ∷ 1 ∷ 1 ∷ 1 ∷ 1 ∷ 1 ∷ 1 ∷ 1 ∷ 1 ∷ 1 ∷ 1 ∷ 1 ∷ 1 ∷ 1 ∷ 1 ∷ 1 ∷ 1 ∷ 1 ∷ 1 ∷ 1 ∷ 1 ∷ 1 ∷ 1 ∷ 1 ∷ 1 ∷ 1 ∷ 1 ∷ 1 ∷ 1 ∷ 1 ∷ 1 ∷ 0 ∷ 0 ∷ 0 ∷ 0 ∷ 0 ∷ 0 ∷ 0 ∷ 0 ∷ 0 ∷ 0 ∷ 0 ∷ 0 ∷ 0 ∷ 0 ∷ 0 ∷ 0 ∷ 0 ∷ 0 ∷ 0 ∷ 0 ∷ 0 ∷ 0 ∷ 0 ∷ 0 ∷ 0 ∷ 0 ∷ 0 ∷ 0 ∷ 0 ∷ 0 ∷ 0 ∷ 0 ∷ 0 ∷ 0 ∷ 0 ∷ 0 ∷ 0 ∷ 0 ∷ 0 ∷ 0 ∷ 0 ∷ 0 ∷ 0 ∷ 0 ∷ 0 ∷ 0 ∷ 0 ∷ 0 ∷ 0 ∷ 0 ∷ 0 ∷ 0 ∷ 0 ∷ 0 ∷ 0 ∷ 0 ∷ 0 ∷ 0 ∷ 0 ∷ 0 ∷ 0 ∷ 0 ∷ 0 ∷ 0 ∷ 0 ∷ 0 ∷ 0 ∷ 0 ∷ 0 ∷ 0 ∷ 0 ∷ 0 ∷ 0 ∷ 0 ∷ 0 ∷ 0 ∷ 0 ∷ 0 ∷ 0 ∷ 0 ∷ 0 ∷ 0 ∷ 0 ∷ 0 ∷ 0 ∷ 0 ∷ 0 ∷ 0 ∷ 0 ∷ 0 ∷ 0 ∷ 0 ∷ 0 ∷ 0 ∷ 0 ∷ 0 ∷ 0 ∷ 0 ∷ 0 ∷ 0 ∷ 0 ∷ 0 ∷ 0 ∷ 0 ∷ 0 ∷ 0 ∷ 0 ∷ 0 ∷ 0 ∷ 0 ∷ 0 ∷ 0 ∷ 0 ∷ 0 ∷ 0 ∷ 0 ∷ 0 ∷ 0 ∷ 0 ∷ 0 ∷ 0 ∷ 0 ∷ 0 ∷ 0 ∷ 0 ∷ 0 ∷ 0 ∷ 0 ∷ 0 ∷ []
-
--- what an entry says of the byte at its place
-unfoldable pub right : ℕ → ℕ → Bool
-right b x = eqb x (classOf b) && (Bool·beq (leb 1 x) (isAllowed b) && (Bool·beq (leb 2 x) (isWhite b) && Bool·beq (leb 3 x) (isTerminate b)))
-
--- the test passes at each entry, the first at this place
-every : (ℕ → ℕ → Bool) → ℕ → List ℕ → Bool
-every f i [] = true
-every f i (x ∷ xs) = f i x && every f (suc i) xs
+use Rattle.star_text.specs.Bytes.{isBlank, isTerminate, isWhite, isPrintable, isAllowed, classOf, Classes, classIn, allowedIn, whiteIn, terminateIn, belowIn, run, firstRefused, firstRefusedIn}
+use Rattle.star_text.proofs.Run.{run-agree}
 
 pub both-left : (a b : Bool) → T (a && b) → T a
 both-left true b t = tt
@@ -29,19 +19,36 @@ pub both-right : (a b : Bool) → T (a && b) → T b
 both-right true b t = t
 both-right false b t = absurd t
 
-every-at : (f : ℕ → ℕ → Bool) (xs : List ℕ) (i k : ℕ) → T (every f i xs) → k < length xs → T (f (i + k) (getD xs k 0))
-unfolding every
-every-at f [] i k t h = absurd (not-suc-le-zero h)
-every-at f (x ∷ xs) i zero t h = rw add-zero (both-left (f i x) (every f (suc i) xs) t)
-every-at f (x ∷ xs) i (suc k) t h =
-    rw (add-suc, ← suc-add) (every-at f xs (suc i) k (both-right (f i x) (every f (suc i) xs) t) (le-of-suc-le-suc h))
+-- each number below another passes the test
+unfoldable pub below : (ℕ → Bool) → ℕ → Bool
+below f zero = true
+below f (suc n) = f n && below f n
 
-passes : T (every right 0 classes)
-unfolding every right classOf isAllowed isWhite isBlank isTerminate isPrintable
+below-at : (f : ℕ → Bool) (n b : ℕ) → T (below f n) → b < n → T (f b)
+unfolding below
+below-at f zero b t h = absurd (not-suc-le-zero h)
+below-at f (suc n) b t h = go (below-at f n b (both-right (f n) (below f n) t)) (eqb b n) refl
+  where
+    go : (b < n → T (f b)) → (same : Bool) → eqb b n ≡ same → T (f b)
+    go rest true e = rw (eqb-true b n e) (both-left (f n) (below f n) t)
+    go rest false e = rest (omega (arith, eqb-false b n e))
+
+-- the entry of a byte is its class
+unfoldable pub right : List ℕ → ℕ → Bool
+right table b = eqb (classIn table b) (classOf b)
+
+pub classes-right : (table : List ℕ) → T (below (right table) 256) → Classes table
+unfolding right
+classes-right table t = record { class = λ b h. eqb→eq (classIn table b) (classOf b) (below-at (right table) 256 b t h) }
+
+-- what the class of a byte says of it
+says : ℕ → Bool
+says b =
+    Bool·beq (leb 1 (classOf b)) (isAllowed b) && (Bool·beq (leb 2 (classOf b)) (isWhite b) && Bool·beq (leb 3 (classOf b)) (isTerminate b))
+
+passes : T (below says 256)
+unfolding below says classOf isAllowed isWhite isBlank isTerminate isPrintable
 passes = tt
-
-at-entry : (b : ℕ) → b < 256 → T (right b (getD classes b 0))
-at-entry b h = rw zero-add at (every-at right classes 0 b passes h)
 
 beq-eq : (a b : Bool) → T (Bool·beq a b) → a ≡ b
 beq-eq true true t = refl
@@ -49,30 +56,44 @@ beq-eq true false t = absurd t
 beq-eq false true t = absurd t
 beq-eq false false t = refl
 
-module _ (b : ℕ) (h : b < 256) where
-  x : ℕ
-  x = getD classes b 0
+ltb-not-leb : (a b : ℕ) → ltb a b ≡ not (leb b a)
+ltb-not-leb a b = go (leb b a) refl
+  where
+    go : (t : Bool) → leb b a ≡ t → ltb a b ≡ not t
+    go true e = le-ltb a b (leb-true b a e)
+    go false e = lt-ltb a b (leb-false b a e)
 
-  rest : T (Bool·beq (leb 1 x) (isAllowed b) && (Bool·beq (leb 2 x) (isWhite b) && Bool·beq (leb 3 x) (isTerminate b)))
-  unfolding right x
-  rest = both-right (eqb x (classOf b)) _ (at-entry b h)
+module _ {table : List ℕ} (c : Classes table) where
+  module _ (b : ℕ) (h : b < 256) where
+    said : T (says b)
+    said = below-at says 256 b passes h
 
-  last : T (Bool·beq (leb 2 x) (isWhite b) && Bool·beq (leb 3 x) (isTerminate b))
-  unfolding x
-  last = both-right (Bool·beq (leb 1 x) (isAllowed b)) _ rest
+    pub allowed-is : allowedIn table b ≡ isAllowed b
+    unfolding says
+    allowed-is = rw (c .class b h) (beq-eq (leb 1 (classOf b)) (isAllowed b) (both-left (Bool·beq (leb 1 (classOf b)) (isAllowed b)) _ said))
 
-  pub class-is : getD classes b 0 ≡ classOf b
-  unfolding right x
-  class-is = eqb→eq x (classOf b) (both-left (eqb x (classOf b)) _ (at-entry b h))
+    pub white-is : whiteIn table b ≡ isWhite b
+    unfolding says
+    white-is = rw (c .class b h) (beq-eq (leb 2 (classOf b)) (isWhite b) (both-left (Bool·beq (leb 2 (classOf b)) (isWhite b)) _ (both-right (Bool·beq (leb 1 (classOf b)) (isAllowed b)) _ said)))
 
-  pub allowed-is : leb 1 (classOf b) ≡ isAllowed b
-  unfolding x
-  allowed-is = rw (← class-is) (beq-eq (leb 1 x) (isAllowed b) (both-left (Bool·beq (leb 1 x) (isAllowed b)) _ rest))
+    pub terminate-is : terminateIn table b ≡ isTerminate b
+    unfolding says
+    terminate-is = rw (c .class b h) (beq-eq (leb 3 (classOf b)) (isTerminate b) (both-right (Bool·beq (leb 2 (classOf b)) (isWhite b)) _ (both-right (Bool·beq (leb 1 (classOf b)) (isAllowed b)) _ said)))
 
-  pub white-is : leb 2 (classOf b) ≡ isWhite b
-  unfolding x
-  white-is = rw (← class-is) (beq-eq (leb 2 x) (isWhite b) (both-left (Bool·beq (leb 2 x) (isWhite b)) _ last))
+    -- classes below that of white space and of line ends
+    pub below-white : belowIn table 2 b ≡ not (isWhite b)
+    below-white = ltb-not-leb (classIn table b) 2 ∙ ap not white-is
 
-  pub terminate-is : leb 3 (classOf b) ≡ isTerminate b
-  unfolding x
-  terminate-is = rw (← class-is) (beq-eq (leb 3 x) (isTerminate b) (both-right (Bool·beq (leb 2 x) (isWhite b)) _ last))
+    pub below-terminate : belowIn table 3 b ≡ not (isTerminate b)
+    below-terminate = ltb-not-leb (classIn table b) 3 ∙ ap not terminate-is
+
+  pub first-refused-is : (file : List ℕ) → ((i : ℕ) → getD file i 0 < 256) → firstRefusedIn table file ≡ firstRefused file
+  unfolding firstRefused
+  first-refused-is file bytes = ap length (run-agree (allowedIn table) isAllowed allowed-is file bytes)
+
+  -- runs of bytes by their classes
+  pub run-word : (file : List ℕ) → ((i : ℕ) → getD file i 0 < 256) → run (belowIn table 2) file ≡ run (λ b. not (isWhite b)) file
+  run-word file bytes = run-agree (belowIn table 2) (λ b. not (isWhite b)) below-white file bytes
+
+  pub run-line : (file : List ℕ) → ((i : ℕ) → getD file i 0 < 256) → run (belowIn table 3) file ≡ run (λ b. not (isTerminate b)) file
+  run-line file bytes = run-agree (belowIn table 3) (λ b. not (isTerminate b)) below-terminate file bytes

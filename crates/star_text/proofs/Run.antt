@@ -1,17 +1,16 @@
 -- Laws of `run`: how far it goes, seen from a place of the list.
 use mathlib.Core.Path.{_≡_, refl, sym, _∙_, ap}
-use mathlib.Core.Bool.{Bool, true, false, cond, not}
+use mathlib.Core.Bool.{Bool, true, false, cond}
 use mathlib.Core.List.{List, [], _∷_}
 use Prim.Native.Nat.{ℕ, zero, suc, _+_, _≤_, _<_, zero-le, suc-le-suc}
 use native.Mathlib.Nat.{add-suc, suc-add, add-zero}
 use native.Mathlib.Numerals.{add-one}
 use native.Mathlib.Omega.{arith}
-use borrow.Author.Tests.{lt-ltb, le-ltb, ltb-true, ltb-false, leb-true, leb-false}
-use lib.Dec.{ltb, leb}
+use borrow.Author.Tests.{ltb-true, ltb-false}
+use lib.Dec.{ltb}
 use lib.ListN.{length, getD, take, drop, drop-of-length-le}
 use lib.Seq.{drop-cons}
-use Rattle.star_text.specs.Bytes.{isWhite, isTerminate, classOf, run}
-use Rattle.star_text.proofs.Classes.{white-is, terminate-is}
+use Rattle.star_text.specs.Bytes.{run}
 
 module _ (p : ℕ → Bool) (xs : List ℕ) (at : ℕ) where
   -- past a byte that passes
@@ -56,20 +55,6 @@ pub run-agree : (p q : ℕ → Bool) → ((b : ℕ) → b < 256 → p b ≡ q b)
 unfolding run
 run-agree p q f [] h = refl
 run-agree p q f (x ∷ xs) h = rw (f x (h 0), run-agree p q f xs (λ i. h (suc i)))
-
-ltb-not-leb : (a b : ℕ) → ltb a b ≡ not (leb b a)
-ltb-not-leb a b = go (leb b a) refl
-  where
-    go : (t : Bool) → leb b a ≡ t → ltb a b ≡ not t
-    go true e = le-ltb a b (leb-true b a e)
-    go false e = lt-ltb a b (leb-false b a e)
-
--- classes below that of white space and of line ends
-pub below-white : (b : ℕ) → b < 256 → ltb (classOf b) 2 ≡ not (isWhite b)
-below-white b h = ltb-not-leb (classOf b) 2 ∙ ap not (white-is b h)
-
-pub below-terminate : (b : ℕ) → b < 256 → ltb (classOf b) 3 ≡ not (isTerminate b)
-below-terminate b h = ltb-not-leb (classOf b) 3 ∙ ap not (terminate-is b h)
 
 -- what holds of each of four places
 pub each-of-four : (P : ℕ → Type 0) → P 0 → P 1 → P 2 → P 3 → (k : ℕ) → k < 4 → P k

@@ -3,7 +3,7 @@ use mathlib.Core.Path.{_≡_}
 use mathlib.Core.Bool.{Bool, true, cond, _&&_, _||_}
 use mathlib.Core.List.{List, [], _∷_}
 use Prim.Native.Nat.{ℕ, _<_}
-use lib.Dec.{eqb, leb}
+use lib.Dec.{eqb, leb, ltb}
 use lib.ListN.{length, getD}
 
 -- blank: 9, 11, 32
@@ -30,9 +30,25 @@ isAllowed b = leb 9 b && leb b 13 || leb 32 b && leb b 126
 unfoldable pub classOf : ℕ → ℕ
 classOf b = cond (isBlank b) 2 (cond (isTerminate b) 3 (cond (isPrintable b) 1 0))
 
+-- by a lent table: the class of a byte, and whether that is one of allowed bytes, of white space, of line ends, or below another
+abbrev pub classIn : List ℕ → ℕ → ℕ
+classIn table b = getD table b 0
+
+abbrev pub allowedIn : List ℕ → ℕ → Bool
+allowedIn table b = leb 1 (classIn table b)
+
+abbrev pub whiteIn : List ℕ → ℕ → Bool
+whiteIn table b = leb 2 (classIn table b)
+
+abbrev pub terminateIn : List ℕ → ℕ → Bool
+terminateIn table b = leb 3 (classIn table b)
+
+abbrev pub belowIn : List ℕ → (class : ℕ) → ℕ → Bool
+belowIn table class b = ltb (classIn table b) class
+
 -- a table that has the class of each byte at its place
-abbrev pub Classes : List ℕ → Type 0
-Classes table = (b : ℕ) → b < 256 → getD table b 0 ≡ classOf b
+pub record Classes (table : List ℕ) : Type 0 where
+  pub class : (b : ℕ) → b < 256 → classIn table b ≡ classOf b
 
 -- every byte passes a test
 unfoldable pub all : (ℕ → Bool) → List ℕ → Bool
@@ -47,3 +63,7 @@ run p (b ∷ bs) = cond (p b) (b ∷ run p bs) []
 -- the place of the first byte that is not allowed, or the file's length where there is none
 unfoldable pub firstRefused : List ℕ → ℕ
 firstRefused file = length (run isAllowed file)
+
+-- the same by a lent table
+abbrev pub firstRefusedIn : List ℕ → List ℕ → ℕ
+firstRefusedIn table file = length (run (allowedIn table) file)

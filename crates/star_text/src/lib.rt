@@ -2,9 +2,8 @@
 ghost use mathlib.Core.Path.{_≡_};
 ghost use mathlib.Core.Bool.{true};
 ghost use Prim.Native.Nat.{ℕ, _+_, _≤_, _<_};
-ghost use lib.Dec.{ltb};
 ghost use lib.ListN.{length, getD, drop};
-ghost use Rattle.star_text.specs.Bytes.{Classes, classOf, isAllowed, isTerminate, isWhite, firstRefused, run};
+ghost use Rattle.star_text.specs.Bytes.{Classes, classIn, allowedIn, terminateIn, whiteIn, belowIn, firstRefusedIn, run};
 
 // The classes of bytes: not allowed, printable, blank, terminate.
 const REFUSED: u8 = 0;
@@ -280,43 +279,38 @@ pub fn class_table() -> [u8; 256]
     CLASSES
 }
 
-// The class of a byte. This function and those below are called by proved layers only, which lend them the class table.
+// The class of a byte, by the table that is lent; so in the functions below.
 fn class_of(classes: &[u8; 256], b: u8) -> u8
-    requires { ⌜ Classes (now classes) ⌝ }
-    ensures { λ r. ⌜ r ≡ classOf b ⌝ }
+    ensures { λ r. ⌜ r ≡ classIn (now (classes .entry)) b ⌝ }
 {
     classes[b as usize]
 }
 
 // Whether a byte is allowed.
 fn is_allowed(classes: &[u8; 256], b: u8) -> bool
-    requires { ⌜ Classes (now classes) ⌝ }
-    ensures { λ r. ⌜ r ≡ isAllowed b ⌝ }
+    ensures { λ r. ⌜ r ≡ allowedIn (now (classes .entry)) b ⌝ }
 {
     REFUSED < class_of(classes, b)
 }
 
 // Whether a byte is white space.
 pub fn is_white(classes: &[u8; 256], b: u8) -> bool
-    requires { ⌜ Classes (now classes) ⌝ }
-    ensures { λ r. ⌜ r ≡ isWhite b ⌝ }
+    ensures { λ r. ⌜ r ≡ whiteIn (now (classes .entry)) b ⌝ }
 {
     BLANK <= class_of(classes, b)
 }
 
 // Whether a byte ends a line.
 pub fn is_terminate(classes: &[u8; 256], b: u8) -> bool
-    requires { ⌜ Classes (now classes) ⌝ }
-    ensures { λ r. ⌜ r ≡ isTerminate b ⌝ }
+    ensures { λ r. ⌜ r ≡ terminateIn (now (classes .entry)) b ⌝ }
 {
     TERMINATE <= class_of(classes, b)
 }
 
 // Answers true only where the four bytes from a place on are allowed.
 fn four_allowed(classes: &[u8; 256], file: &[u8], at: usize) -> bool
-    requires { ⌜ Classes (now classes) ⌝ }
     requires { ⌜ at + 3 < length (now file) ⌝ }
-    ensures { λ r. ⌜ (r ≡ true → (k : ℕ) → k < 4 → isAllowed (getD (now (file .entry)) (at + k) 0) ≡ true) ⌝ }
+    ensures { λ r. ⌜ (r ≡ true → (k : ℕ) → k < 4 → allowedIn (now (classes .entry)) (getD (now (file .entry)) (at + k) 0) ≡ true) ⌝ }
 {
     if !is_allowed(classes, file[at]) {
         return false;
@@ -335,9 +329,8 @@ fn four_allowed(classes: &[u8; 256], file: &[u8], at: usize) -> bool
 
 // A place from which on as many bytes are allowed as are left of those that are allowed from the start: four are passed at a time.
 fn skip_allowed(classes: &[u8; 256], file: &[u8]) -> usize
-    requires { ⌜ Classes (now classes) ⌝ }
     ensures { λ r. ⌜ r ≤ length (now (file .entry)) ⌝ }
-    ensures { λ r. ⌜ r + length (run isAllowed (drop r (now (file .entry)))) ≡ length (run isAllowed (now (file .entry))) ⌝ }
+    ensures { λ r. ⌜ r + firstRefusedIn (now (classes .entry)) (drop r (now (file .entry))) ≡ firstRefusedIn (now (classes .entry)) (now (file .entry)) ⌝ }
 {
     let mut at = 0;
     while file.len() - at > 3 {
@@ -351,8 +344,7 @@ fn skip_allowed(classes: &[u8; 256], file: &[u8]) -> usize
 
 // The place of the first byte that is not allowed, or the file's length where there is none.
 pub fn first_refused(classes: &[u8; 256], file: &[u8]) -> usize
-    requires { ⌜ Classes (now classes) ⌝ }
-    ensures { λ r. ⌜ r ≡ firstRefused (now (file .entry)) ⌝ }
+    ensures { λ r. ⌜ r ≡ firstRefusedIn (now (classes .entry)) (now (file .entry)) ⌝ }
 {
     let mut at = skip_allowed(classes, file);
     while at < file.len() {
@@ -366,9 +358,8 @@ pub fn first_refused(classes: &[u8; 256], file: &[u8]) -> usize
 
 // Answers true only where the classes of the four bytes from a place on are below `class`.
 fn four_below(classes: &[u8; 256], file: &[u8], at: usize, class: u8) -> bool
-    requires { ⌜ Classes (now classes) ⌝ }
     requires { ⌜ at + 3 < length (now file) ⌝ }
-    ensures { λ r. ⌜ (r ≡ true → (k : ℕ) → k < 4 → ltb (classOf (getD (now (file .entry)) (at + k) 0)) class ≡ true) ⌝ }
+    ensures { λ r. ⌜ (r ≡ true → (k : ℕ) → k < 4 → belowIn (now (classes .entry)) class (getD (now (file .entry)) (at + k) 0) ≡ true) ⌝ }
 {
     if class <= class_of(classes, file[at]) {
         return false;
@@ -387,9 +378,8 @@ fn four_below(classes: &[u8; 256], file: &[u8], at: usize, class: u8) -> bool
 
 // A place of the run from `from` on of bytes whose class is below `class`, which ends where the run from there ends: four are passed at a time.
 fn skip_below(classes: &[u8; 256], file: &[u8], from: usize, class: u8) -> usize
-    requires { ⌜ Classes (now classes) ⌝ }
-    ensures { λ r. ⌜ r + length (run (λ b. ltb (classOf b) class) (drop r (now (file .entry))))
-        ≡ from + length (run (λ b. ltb (classOf b) class) (drop from (now (file .entry)))) ⌝ }
+    ensures { λ r. ⌜ r + length (run (belowIn (now (classes .entry)) class) (drop r (now (file .entry))))
+        ≡ from + length (run (belowIn (now (classes .entry)) class) (drop from (now (file .entry)))) ⌝ }
 {
     let mut at = from;
     while at < file.len() {
@@ -406,8 +396,7 @@ fn skip_below(classes: &[u8; 256], file: &[u8], from: usize, class: u8) -> usize
 
 // The end of the run of bytes from `from` on whose class is below `class`.
 pub fn run_end(classes: &[u8; 256], file: &[u8], from: usize, class: u8) -> usize
-    requires { ⌜ Classes (now classes) ⌝ }
-    ensures { λ r. ⌜ r ≡ from + length (run (λ b. ltb (classOf b) class) (drop from (now (file .entry)))) ⌝ }
+    ensures { λ r. ⌜ r ≡ from + length (run (belowIn (now (classes .entry)) class) (drop from (now (file .entry)))) ⌝ }
 {
     let mut at = skip_below(classes, file, from, class);
     while at < file.len() {

@@ -8,6 +8,8 @@ use native.Mathlib.Omega.{arith}
 use lib.ListN.{length, getD, take, drop, length-map, List·getD-map}
 use Rattle.star_lex.specs.Tokens.{Placed, Each, opening, tokenRow}
 use Rattle.star_lex.specs.Split.{Split, refused, accepted, tokensOf, placed}
+use Rattle.star_lex.specs.Table.{contentIn}
+use Rattle.star_lex.proofs.Table.{part-whole, content-row}
 use Rattle.star_lex.proofs.Parts.{PartOf, split-parts, split-count, contentEnd}
 use Rattle.star_rows.proofs.Held.{held-word}
 use Rattle.star_unique.specs.Holds.{Holds, fileTokens, tokenAt}
@@ -89,3 +91,8 @@ module _ (file words : List ℕ) (count : ℕ) (h : Holds file words count) (n :
         within = omega (arith, part .whole);
         content = rw (size, start) (sym (part .content) ∙ ap (λ u. u .content) (sym t));
       }
+
+  -- the content that the row spans
+  pub held-content : contentIn file words n ≡ tokenAt file n .content
+  held-content =
+      content-row file words n (omega (arith, h .room, h .count-is)) ∙ part-whole file _ _ (held-row .ordered) (held-row .within) ∙ held-row .content

@@ -1,5 +1,6 @@
 pub mod Chain
 pub mod Clean
+pub mod Comparing
 pub mod Distinct
 pub mod First
 pub mod Fresh

@@ -3,3 +3,4 @@ pub mod Holds
 pub mod Seen
 pub mod Chain
 pub mod Marked
+pub mod Compared

@@ -5,10 +5,12 @@ ghost use mathlib.Core.Bool.{_&&_};
 ghost use Prim.Native.Nat.{_+_, _*_, _%_, _≤_, _<_};
 ghost use lib.Dec.{eqb};
 ghost use lib.ListN.{length, getD};
+ghost use Rattle.star_lex.specs.Found.{tokensIn, tableOf as Found·tableOf};
 ghost use Rattle.star_unique.specs.Repeat.{nothing, firstRepeat, same as Repeat·same};
 ghost use Rattle.star_unique.specs.Holds.{Holds, fileTokens, tokenAt};
 ghost use Rattle.star_unique.specs.Chain.{sortOf, floorOf, passed, scopeAt, bucketOf, bucketAt, latest, earlier, kindOf, tableOf};
 ghost use Rattle.star_unique.specs.Marked.{Spans, Marked, Heads, Visited};
+ghost use Rattle.star_unique.specs.Compared.{comparedOf};
 
 // Whether two rows of bytes are equal. Names of one family differ at their ends, so the last bytes are compared first.
 pub fn same(a: &[u8], b: &[u8]) -> bool
@@ -36,15 +38,6 @@ fn span<'a>(file: &'a [u8], tokens: &[u32], count: usize, n: usize) -> &'a [u8]
     let start = tokens[n * 3 + 1] as usize;
     let end = tokens[n * 3 + 2] as usize;
     &file[start..end]
-}
-
-// The content of token `n`. It is called by proved layers only, which hand it table 1 of the file.
-pub fn content<'a>(file: &'a [u8], tokens: &[u32], count: usize, n: usize) -> &'a [u8]
-    requires { ⌜ Holds (now file) (now tokens) count ⌝ }
-    requires { ⌜ n < count ⌝ }
-    ensures { λ r. ⌜ now r ≡ tokenAt (now (file .entry)) n .content ⌝ }
-{
-    span(file, tokens, count, n)
 }
 
 // Where the scopes begin: the row after the heading of the open block, the row after the heading of the last frame, and whether that is open.
@@ -255,9 +248,8 @@ fn unmark(file: &[u8], tokens: &mut [u32], count: usize, rows: usize)
     }
 }
 
-// How many tokens stand before the first that repeats a name or code of its scope; all of them where none does. It is called by proved layers
-// only, which hand it table 1 of the file, and it leaves the table as it was.
-pub fn first_repeat(file: &[u8], tokens: &mut [u32], count: usize) -> usize
+// How many tokens stand before the first that repeats a name or code of its scope; all of them where none does. It leaves table 1 as it was.
+fn first_repeat(file: &[u8], tokens: &mut [u32], count: usize) -> usize
     requires { ⌜ Holds (now file) (now tokens) count ⌝ }
     ensures { λ r. ⌜ r ≡ firstRepeat nothing (fileTokens (now (file .entry))) ⌝ }
     ensures { λ _. ⌜ now (tokens .exit) ≡ now (tokens .entry) ⌝ }
@@ -266,4 +258,38 @@ pub fn first_repeat(file: &[u8], tokens: &mut [u32], count: usize) -> usize
     let n = mark(file, tokens, count, &mut heads);
     unmark(file, tokens, count, n);
     n
+}
+
+// What reading the tokens answers: refusal and place, both 0 when accepted; the number of tokens; and how many of them stand before the first that
+// repeats a name or code of its scope, all of them where none does.
+pub struct Compared {
+    pub refusal: u32,
+    pub place: u32,
+    pub count: u32,
+    pub taken: usize,
+}
+
+// Splits a file into tokens, stores them as table 1, and looks for the first that repeats a name or code; on a refusal every word of the table is 0.
+pub fn read_tokens(file: &[u8], table: &mut [u32]) -> Compared
+    ensures { λ r. ⌜ r ≡ comparedOf (tokensIn (now (file .entry)) (length (now (table .entry)))) ⌝ }
+    ensures { λ _. ⌜ now (table .exit)
+        ≡ Found·tableOf (tokensIn (now (file .entry)) (length (now (table .entry)))) (length (now (table .entry))) ⌝ }
+{
+    let found = star_lex::read_tokens(file, table);
+    if found.refusal != 0 {
+        return Compared {
+            refusal: found.refusal,
+            place: found.place,
+            count: 0,
+            taken: 0,
+        };
+    }
+    let count = found.count;
+    let taken = first_repeat(file, table, count as usize);
+    Compared {
+        refusal: 0,
+        place: 0,
+        count,
+        taken,
+    }
 }

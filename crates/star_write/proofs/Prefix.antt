@@ -9,8 +9,9 @@ use lib.Seq.{take-suc, take-all}
 use Rattle.star_rows.proofs.Stored.{flat-append}
 use Rattle.star_lex.specs.Tokens.{Token}
 use Rattle.star_lex.specs.Plain.{plainToken, plainOf}
+use Rattle.star_lex.specs.Table.{contentIn}
 use Rattle.star_unique.specs.Holds.{Holds, fileTokens, tokenAt}
-use Rattle.star_unique.proofs.Held.{Row, held-row, count-tokens}
+use Rattle.star_unique.proofs.Held.{Row, held-row, held-content, count-tokens}
 use Rattle.star_write.specs.Put.{tokenOf}
 
 -- the plain form of the first tokens of a row
@@ -44,9 +45,10 @@ module _ (file words : List ℕ) (count : ℕ) (h : Holds file words count) wher
   pub plain-all : (n : ℕ) → count ≤ n → plainFirst n (fileTokens file) ≡ plainOf (fileTokens file)
   plain-all n g = ap plainOf (take-all n (fileTokens file) (omega (arith, count-tokens file words count h)))
 
-  pub next : (n : ℕ) → n < count → (content : List ℕ) → content ≡ tokenAt file n .content → Next file n (getD words (n * 3) 0) content
-  next n below content e =
+  pub next : (n : ℕ) → n < count → (content : List ℕ) → content ≡ contentIn file words n → Next file n (getD words (n * 3) 0) content
+  next n below content c =
       let r : Row file words n = held-row file words count h n below in
+      let e : content ≡ tokenAt file n .content = c ∙ held-content file words count h n below in
       let plain : plainFirst (n + 1) (fileTokens file) ≡ plainFirst n (fileTokens file) ++ plainToken (tokenOf (getD words (n * 3) 0) content) =
       rw (r .kind, e) (plain-next n (fileTokens file) _ (omega (arith, count-tokens file words count h))) in
       record {

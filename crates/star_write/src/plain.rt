@@ -16,7 +16,7 @@ pub(crate) fn plain_length(file: &[u8], tokens: &[u32], count: usize) -> usize
     let mut n = 0;
     while n < count {
         let kind = tokens[n * 3];
-        total += token::token_length(kind, star_unique::content(file, tokens, count, n));
+        total += token::token_length(kind, star_lex::content(file, tokens, n));
         n += 1;
     }
     total
@@ -34,7 +34,7 @@ pub(crate) fn put_tokens(file: &[u8], tokens: &[u32], count: usize, out: &mut [u
     let mut n = 0;
     while n < count {
         let kind = tokens[n * 3];
-        let content = star_unique::content(file, tokens, count, n);
+        let content = star_lex::content(file, tokens, n);
         at += token::put_token(&mut out[at..], kind, content);
         n += 1;
     }

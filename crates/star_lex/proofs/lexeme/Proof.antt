@@ -1,13 +1,14 @@
 -- `lexeme` meets its contract: the rules are tried in their order.
-use mathlib.Core.Path.{refl, sym, _∙_, ap}
+use mathlib.Core.Path.{_≡_, refl, sym, _∙_, ap}
 use Prim.Native.Nat.{_+_}
 use native.Mathlib.Nat.{add-zero}
 use native.Mathlib.Omega.{arith}
 use borrow.Author.Needs.{needs}
 use borrow.Author.Tests.{eq-eqb, ne-eqb}
-use lib.ListN.{length, drop}
+use lib.ListN.{length, getD, drop}
 use lib.Seq.{getD-drop}
-use Rattle.star_text.proofs.Run.{run-agree, below-terminate}
+use Rattle.star_text.specs.Bytes.{isWhite}
+use Rattle.star_text.proofs.Classes.{white-is, run-line}
 use Rattle.star_lex.specs.Tokens.{opening}
 use Rattle.star_lex.specs.Split.{lexeme, quoted, quotedLexeme}
 use Rattle.star_lex.specs.Found.{foundAt}
@@ -21,12 +22,18 @@ shared-slice-read-b c = search needs
 is-white-requires : tie.Need-is-white-requires
 is-white-requires c κs = search needs
 
+-- the byte is white space
+white : (c : tie.After-is-white) → c .is-white .result ≡ isWhite (getD (c .before .before .before .args .file .now) (c .before .before .before .args .at) 0)
+white c =
+    c .is-white .ensures
+    ∙ white-is (c .before .before .before .pre .1) _ (omega (arith, c .before .shared-slice-known2 .given (c .before .before .before .args .at)))
+
 add-t9 : tie.Need-add-t9
 add-t9 c = search needs
 
 returns : tie.Need-returns
 unfolding lexeme foundAt
-returns c = rw ((sym (c .before .is-white .ensures) ∙ c .if1 .taken), add-zero)
+returns c = rw ((sym (white (c .before)) ∙ c .if1 .taken), add-zero)
 
 add-run-end : tie.Need-add-run-end
 add-run-end c = search needs
@@ -37,8 +44,8 @@ run-end-requires c κs = search needs
 returns-2 : tie.Need-returns-2
 unfolding lexeme foundAt
 returns-2 c =
-    rw ((sym (c .before .before .before .is-white .ensures) ∙ c .before .before .if1 .left), eq-eqb _ 35 (c .before .if2 .taken))
-    (ap Gap (c .run-end .ensures ∙ ap (λ r. (c .before .before .before .before .before .before .args .at) + 1 + length r) (run-agree _ _ below-terminate (drop ((c .before .before .before .before .before .before .args .at) + 1) (c .before .before .before .before .before .before .args .file .now))
+    rw ((sym (white (c .before .before .before)) ∙ c .before .before .if1 .left), eq-eqb _ 35 (c .before .if2 .taken))
+    (ap Gap (c .run-end .ensures ∙ ap (λ r. (c .before .before .before .before .before .before .args .at) + 1 + length r) (run-line (c .before .before .before .before .before .before .pre .1) (drop ((c .before .before .before .before .before .before .args .at) + 1) (c .before .before .before .before .before .before .args .file .now))
     (λ i. rw getD-drop (omega (arith, c .before .before .before .before .before .shared-slice-known .given ((c .before .before .before .before .before .before .args .at) + 1 + i)))))))
 
 opens-field-requires : tie.Need-opens-field-requires
@@ -49,34 +56,34 @@ text-field-requires c κs = search needs
 
 returns-3 : tie.Need-returns-3
 unfolding lexeme foundAt
-returns-3 c = rw ((sym (c .before .before .before .before .before .is-white .ensures) ∙ c .before .before .before .before .if1 .left), ne-eqb _ 35 (c .before .before .before .if2 .left), (sym (c .before .before .opens-field .ensures) ∙ c .before .if3 .taken)) (c .text-field .ensures)
+returns-3 c = rw ((sym (white (c .before .before .before .before .before)) ∙ c .before .before .before .before .if1 .left), ne-eqb _ 35 (c .before .before .before .if2 .left), (sym (c .before .before .opens-field .ensures) ∙ c .before .if3 .taken)) (c .text-field .ensures)
 
 quoted-string-requires : tie.Need-quoted-string-requires
 unfolding opening
-quoted-string-requires c κs = (c .before .before .before .before .before .before .before .before .pre .0, (refl, (sym (c .before .before .before .before .before .is-white .ensures) ∙ c .before .before .before .before .if1 .left, c .before .before .before .before .before .before .before .before .pre .1)))
+quoted-string-requires c κs = (c .before .before .before .before .before .before .before .before .pre .0, (refl, (sym (white (c .before .before .before .before .before)) ∙ c .before .before .before .before .if1 .left, c .before .before .before .before .before .before .before .before .pre .1)))
 
 returns-4 : tie.Need-returns-4
 unfolding lexeme foundAt
 returns-4 c =
-    rw ((sym (c .before .before .before .before .before .before .is-white .ensures) ∙ c .before .before .before .before .before .if1 .left), ne-eqb _ 35 (c .before .before .before .before .if2 .left), (sym (c .before .before .before .opens-field .ensures) ∙ c .before .before .if3 .left), eq-eqb _ 39 (c .before .if4 .taken))
+    rw ((sym (white (c .before .before .before .before .before .before)) ∙ c .before .before .before .before .before .if1 .left), ne-eqb _ 35 (c .before .before .before .before .if2 .left), (sym (c .before .before .before .opens-field .ensures) ∙ c .before .before .if3 .left), eq-eqb _ 39 (c .before .if4 .taken))
     (c .quoted-string .ensures ∙ ap (λ n. foundAt (c .before .before .before .before .before .before .before .before .before .args .at) (quotedLexeme 9 (quoted n (drop ((c .before .before .before .before .before .before .before .before .before .args .at) + 1) (c .before .before .before .before .before .before .before .before .before .args .file .now))))) (c .before .if4 .taken))
 
 quoted-string-requires-2 : tie.Need-quoted-string-requires-2
 unfolding opening
-quoted-string-requires-2 c κs = (c .before .before .before .before .before .before .before .before .before .pre .0, (refl, (sym (c .before .before .before .before .before .before .is-white .ensures) ∙ c .before .before .before .before .before .if1 .left, c .before .before .before .before .before .before .before .before .before .pre .1)))
+quoted-string-requires-2 c κs = (c .before .before .before .before .before .before .before .before .before .pre .0, (refl, (sym (white (c .before .before .before .before .before .before)) ∙ c .before .before .before .before .before .if1 .left, c .before .before .before .before .before .before .before .before .before .pre .1)))
 
 returns-5 : tie.Need-returns-5
 unfolding lexeme foundAt
 returns-5 c =
-    rw ((sym (c .before .before .before .before .before .before .before .is-white .ensures) ∙ c .before .before .before .before .before .before .if1 .left), ne-eqb _ 35 (c .before .before .before .before .before .if2 .left), (sym (c .before .before .before .before .opens-field .ensures) ∙ c .before .before .before .if3 .left), ne-eqb _ 39 (c .before .before .if4 .left), eq-eqb _ 34 (c .before .if5 .taken))
+    rw ((sym (white (c .before .before .before .before .before .before .before)) ∙ c .before .before .before .before .before .before .if1 .left), ne-eqb _ 35 (c .before .before .before .before .before .if2 .left), (sym (c .before .before .before .before .opens-field .ensures) ∙ c .before .before .before .if3 .left), ne-eqb _ 39 (c .before .before .if4 .left), eq-eqb _ 34 (c .before .if5 .taken))
     (c .quoted-string2 .ensures ∙ ap (λ n. foundAt (c .before .before .before .before .before .before .before .before .before .before .args .at) (quotedLexeme 10 (quoted n (drop ((c .before .before .before .before .before .before .before .before .before .before .args .at) + 1) (c .before .before .before .before .before .before .before .before .before .before .args .file .now))))) (c .before .if5 .taken))
 
 word-at-requires : tie.Need-word-at-requires
-word-at-requires c κs = (c .before .before .before .before .before .before .before .before .before .pre .0, (sym (c .before .before .before .before .before .before .is-white .ensures) ∙ c .before .before .before .before .before .if1 .left, c .before .before .before .before .before .before .before .before .before .pre .1))
+word-at-requires c κs = (c .before .before .before .before .before .before .before .before .before .pre .0, (sym (white (c .before .before .before .before .before .before)) ∙ c .before .before .before .before .before .if1 .left, c .before .before .before .before .before .before .before .before .before .pre .1))
 
 returns-6 : tie.Need-returns-6
 unfolding lexeme foundAt
-returns-6 c = rw ((sym (c .before .before .before .before .before .before .before .is-white .ensures) ∙ c .before .before .before .before .before .before .if1 .left), ne-eqb _ 35 (c .before .before .before .before .before .if2 .left), (sym (c .before .before .before .before .opens-field .ensures) ∙ c .before .before .before .if3 .left), ne-eqb _ 39 (c .before .before .if4 .left), ne-eqb _ 34 (c .before .if5 .left)) (c .word-at .ensures)
+returns-6 c = rw ((sym (white (c .before .before .before .before .before .before .before)) ∙ c .before .before .before .before .before .before .if1 .left), ne-eqb _ 35 (c .before .before .before .before .before .if2 .left), (sym (c .before .before .before .before .opens-field .ensures) ∙ c .before .before .before .if3 .left), ne-eqb _ 39 (c .before .before .if4 .left), ne-eqb _ 34 (c .before .if5 .left)) (c .word-at .ensures)
 
 pub lexeme-spec : {M : Type 1} → statement M
 lexeme-spec =

@@ -4,6 +4,8 @@ use Prim.Native.Nat.{_*_}
 use native.Mathlib.Omega.{arith}
 use borrow.Author.Needs.{needs}
 use lib.ListN.{length, replicate}
+use Rattle.star_text.specs.Bytes.{firstRefused}
+use Rattle.star_text.proofs.Classes.{first-refused-is}
 use Rattle.star_rows.specs.Rows.{clearedFrom}
 use Rattle.star_rows.proofs.Stored.{stored-holding}
 use Rattle.star_lex.specs.Tokens.{tokenRow}
@@ -32,6 +34,14 @@ class-table-requires c κs = search needs
 first-refused-requires : tie.Need-first-refused-requires
 first-refused-requires c κs = search needs
 
+abbrev start : tie.After-first-refused → tie.Start
+start c = c .before .before .before .before .before .before
+
+first-bad : (c : tie.After-first-refused) → c .first-refused .result ≡ firstRefused (start c .args .file .now)
+first-bad c =
+    c .first-refused .ensures
+    ∙ first-refused-is (c .before .before .class-table .ensures) _ (λ i. omega (arith, c .before .before .before .before .before .shared-slice-known .given i))
+
 cast-refuse : tie.Need-cast-refuse
 cast-refuse c = search needs
 
@@ -44,8 +54,8 @@ same-length-2 c = search needs
 returns-2 : tie.Need-returns-2
 unfolding tableOf fitting
 returns-2 c =
-    let t = tokens-refused-byte (c .before .before .before .before .before .before .before .before .before .before .before .args .file .now) (length (c .before .before .before .before .before .before .before .before .before .before .before .args .table .now)) (c .before .before .before .before .before .before .before .before .if1 .left) (rw (c .before .before .before .before .before .first-refused .ensures) at (c .before .before .before .before .if2 .taken)) in (
-      c .before .before .refuse2 .ensures .0 ∙ ap (λ n. answerOf (refused 2 n)) (c .before .before .before .before .before .first-refused .ensures) ∙ sym (ap answerOf t),
+    let t = tokens-refused-byte (c .before .before .before .before .before .before .before .before .before .before .before .args .file .now) (length (c .before .before .before .before .before .before .before .before .before .before .before .args .table .now)) (c .before .before .before .before .before .before .before .before .if1 .left) (rw (first-bad (c .before .before .before .before .before)) at (c .before .before .before .before .if2 .taken)) in (
+      c .before .before .refuse2 .ensures .0 ∙ ap (λ n. answerOf (refused 2 n)) (first-bad (c .before .before .before .before .before)) ∙ sym (ap answerOf t),
       c .before .before .refuse2 .ensures .1 ∙ sym (ap (λ s. tableOf s (length (c .before .before .before .before .before .before .before .before .before .before .before .args .table .now))) t),
     )
 
@@ -61,7 +71,7 @@ same-length-3 c = search needs
 returns-3 : tie.Need-returns-3
 unfolding tableOf fitting
 returns-3 c =
-    let t = tokens-split (c .before .before .before .before .before .before .before .before .before .before .before .before .before .before .before .before .before .before .args .file .now) (length (c .before .before .before .before .before .before .before .before .before .before .before .before .before .before .before .before .before .before .args .table .now)) (c .before .before .before .before .before .before .before .before .before .before .before .before .before .before .before .if1 .left) (rw (c .before .before .before .before .before .before .before .before .before .before .before .before .first-refused .ensures) at (c .before .before .before .before .before .before .before .before .before .before .before .if2 .left)) ∙ ap (fitting (length (c .before .before .before .before .before .before .before .before .before .before .before .before .before .before .before .before .before .before .args .table .now))) (answer-refused _ (c .before .before .before .before .before .before .before .before .split .result) (c .before .before .before .before .before .before .before .before .split .ensures .0) (c .before .before .before .before .if3 .taken)) in (
+    let t = tokens-split (c .before .before .before .before .before .before .before .before .before .before .before .before .before .before .before .before .before .before .args .file .now) (length (c .before .before .before .before .before .before .before .before .before .before .before .before .before .before .before .before .before .before .args .table .now)) (c .before .before .before .before .before .before .before .before .before .before .before .before .before .before .before .if1 .left) (rw (first-bad (c .before .before .before .before .before .before .before .before .before .before .before .before)) at (c .before .before .before .before .before .before .before .before .before .before .before .if2 .left)) ∙ ap (fitting (length (c .before .before .before .before .before .before .before .before .before .before .before .before .before .before .before .before .before .before .args .table .now))) (answer-refused _ (c .before .before .before .before .before .before .before .before .split .result) (c .before .before .before .before .before .before .before .before .split .ensures .0) (c .before .before .before .before .if3 .taken)) in (
       c .before .before .refuse3 .ensures .0 ∙ sym (ap answerOf t),
       c .before .before .refuse3 .ensures .1 ∙ ap (λ n. replicate n 0) (c .before .before .before .before .before .before .before .before .split .kept .1 .1 .0) ∙ sym (ap (λ s. tableOf s (length (c .before .before .before .before .before .before .before .before .before .before .before .before .before .before .before .before .before .before .args .table .now))) t),
     )
@@ -80,7 +90,7 @@ unfolding tableOf fitting
 returns-4 c =
     let (ps, q, r) = answer-accepted (c .before .before .before .before .before .before .before .before .before .before .before .before .before .before .before .before .before .before .before .before .args .file .now) (c .before .before .before .before .before .before .before .before .before .before .split .result) (c .before .before .before .before .before .before .before .before .before .before .split .ensures .0) (c .before .before .before .before .before .before .if3 .left) in
     let k : length (c .before .before .before .before .before .before .before .before .before .before .split .last .1 .1 .0) ≡ (length (c .before .before .before .before .before .before .before .before .before .before .before .before .before .before .before .before .before .before .before .before .args .table .now)) = c .before .before .before .before .before .before .before .before .before .before .split .kept .1 .1 .0 in
-    let t = tokens-split (c .before .before .before .before .before .before .before .before .before .before .before .before .before .before .before .before .before .before .before .before .args .file .now) (length (c .before .before .before .before .before .before .before .before .before .before .before .before .before .before .before .before .before .before .before .before .args .table .now)) (c .before .before .before .before .before .before .before .before .before .before .before .before .before .before .before .before .before .if1 .left) (rw (c .before .before .before .before .before .before .before .before .before .before .before .before .before .before .first-refused .ensures) at (c .before .before .before .before .before .before .before .before .before .before .before .before .before .if2 .left)) ∙ ap (fitting (length (c .before .before .before .before .before .before .before .before .before .before .before .before .before .before .before .before .before .before .before .before .args .table .now))) q ∙ fitting-full (length (c .before .before .before .before .before .before .before .before .before .before .before .before .before .before .before .before .before .before .before .before .args .table .now)) ps (omega (arith, c .before .before .before .before .if4 .taken)) in (
+    let t = tokens-split (c .before .before .before .before .before .before .before .before .before .before .before .before .before .before .before .before .before .before .before .before .args .file .now) (length (c .before .before .before .before .before .before .before .before .before .before .before .before .before .before .before .before .before .before .before .before .args .table .now)) (c .before .before .before .before .before .before .before .before .before .before .before .before .before .before .before .before .before .if1 .left) (rw (first-bad (c .before .before .before .before .before .before .before .before .before .before .before .before .before .before)) at (c .before .before .before .before .before .before .before .before .before .before .before .before .before .if2 .left)) ∙ ap (fitting (length (c .before .before .before .before .before .before .before .before .before .before .before .before .before .before .before .before .before .before .before .before .args .table .now))) q ∙ fitting-full (length (c .before .before .before .before .before .before .before .before .before .before .before .before .before .before .before .before .before .before .before .before .args .table .now)) ps (omega (arith, c .before .before .before .before .if4 .taken)) in (
       c .before .before .refuse4 .ensures .0 ∙ sym (ap answerOf t),
       c .before .before .refuse4 .ensures .1 ∙ ap (λ n. replicate n 0) k ∙ sym (ap (λ s. tableOf s (length (c .before .before .before .before .before .before .before .before .before .before .before .before .before .before .before .before .before .before .before .before .args .table .now))) t),
     )
@@ -99,7 +109,7 @@ unfolding tableOf fitting
 returns-5 c =
     let (ps, q, r) = answer-accepted (c .before .before .before .before .before .before .before .before .before .before .before .before .before .before .before .before .before .before .before .before .args .file .now) (c .before .before .before .before .before .before .before .before .before .before .split .result) (c .before .before .before .before .before .before .before .before .before .before .split .ensures .0) (c .before .before .before .before .before .before .if3 .left) in
     let k : length (c .before .before .before .before .before .before .before .before .before .before .split .last .1 .1 .0) ≡ (length (c .before .before .before .before .before .before .before .before .before .before .before .before .before .before .before .before .before .before .before .before .args .table .now)) = c .before .before .before .before .before .before .before .before .before .before .split .kept .1 .1 .0 in
-    let t = tokens-split (c .before .before .before .before .before .before .before .before .before .before .before .before .before .before .before .before .before .before .before .before .args .file .now) (length (c .before .before .before .before .before .before .before .before .before .before .before .before .before .before .before .before .before .before .before .before .args .table .now)) (c .before .before .before .before .before .before .before .before .before .before .before .before .before .before .before .before .before .if1 .left) (rw (c .before .before .before .before .before .before .before .before .before .before .before .before .before .before .first-refused .ensures) at (c .before .before .before .before .before .before .before .before .before .before .before .before .before .if2 .left)) ∙ ap (fitting (length (c .before .before .before .before .before .before .before .before .before .before .before .before .before .before .before .before .before .before .before .before .args .table .now))) q ∙ fitting-room (length (c .before .before .before .before .before .before .before .before .before .before .before .before .before .before .before .before .before .before .before .before .args .table .now)) ps (omega (arith, c .before .before .before .before .if4 .left)) in (
+    let t = tokens-split (c .before .before .before .before .before .before .before .before .before .before .before .before .before .before .before .before .before .before .before .before .args .file .now) (length (c .before .before .before .before .before .before .before .before .before .before .before .before .before .before .before .before .before .before .before .before .args .table .now)) (c .before .before .before .before .before .before .before .before .before .before .before .before .before .before .before .before .before .if1 .left) (rw (first-bad (c .before .before .before .before .before .before .before .before .before .before .before .before .before .before)) at (c .before .before .before .before .before .before .before .before .before .before .before .before .before .if2 .left)) ∙ ap (fitting (length (c .before .before .before .before .before .before .before .before .before .before .before .before .before .before .before .before .before .before .before .before .args .table .now))) q ∙ fitting-room (length (c .before .before .before .before .before .before .before .before .before .before .before .before .before .before .before .before .before .before .before .before .args .table .now)) ps (omega (arith, c .before .before .before .before .if4 .left)) in (
       c .before .before .before .before .before .before .before .before .before .before .split .ensures .0 ∙ ap answerOf q ∙ sym (ap answerOf t),
       c .before .before .clear-from .ensures
           ∙ ap (λ n. clearedFrom (n * 3) (c .before .before .before .before .before .before .before .before .before .before .split .last .1 .1 .0)) r

@@ -3,7 +3,9 @@ use mathlib.Core.Path.{_≡_, sym, _∙_, ap}
 use Prim.Native.Nat.{ℕ, _-_}
 use native.Mathlib.Omega.{arith}
 use borrow.Author.Needs.{needs}
-use lib.ListN.{length}
+use lib.ListN.{length, getD}
+use Rattle.star_text.specs.Bytes.{isTerminate}
+use Rattle.star_text.proofs.Classes.{terminate-is}
 use Rattle.star_rows.specs.Rows.{stored}
 use Rattle.star_rows.proofs.Stored.{length-stored}
 use Rattle.star_lex.specs.Tokens.{tokenRow}
@@ -32,6 +34,16 @@ shared-slice-read-is-terminate c = omega arith
 is-terminate-requires : tie.Need-is-terminate-requires Inv-loop μ-loop
 is-terminate-requires c κs = search needs
 
+abbrev loop-at : tie.After-is-terminate Inv-loop μ-loop → tie.At-loop Inv-loop μ-loop
+loop-at c = c .before .before .before .before
+
+-- a line starts after the byte
+line-starts : (c : tie.After-is-terminate Inv-loop μ-loop)
+    → c .is-terminate .result ≡ isTerminate (getD (loop-at c .before .before .before .args .file .now) (loop-at c .loop .at) 0)
+line-starts c =
+    c .is-terminate .ensures
+    ∙ terminate-is (loop-at c .before .before .before .pre .1) _ (omega (arith, c .before .shared-slice-known2 .given (loop-at c .loop .at)))
+
 enum-known-found : tie.Need-enum-known-found Inv-loop μ-loop
 enum-known-found c = search needs
 
@@ -43,7 +55,7 @@ loop-less c =
 loop-again : tie.Need-loop-again Inv-loop μ-loop
 loop-again c =
     let t = turn-gap (c .before .before .before .before .before .before .before .before .before .before .args .file .now) (c .before .before .before .before .before .before .before .before .before .before .args .table .now) (c .before .before .before .before .before .before .before .loop .table) (c .before .before .before .before .before .before .before .loop .at) (c .before .before .before .before .before .before .before .loop .count) (c .before .before .before .before .before .before .before .loop .line) (c .before .before .before .before .before .before .before .loop .inv) (omega arith) (c .before .found .given .0 .0) (sym (c .before .before .before .before .before .lexeme .ensures) ∙ c .before .found .given .1) in
-    rw (c .before .before .before .is-terminate .ensures) (t .0)
+    rw (line-starts (c .before .before .before)) (t .0)
 
 enum-known-found-2 : tie.Need-enum-known-found-2 Inv-loop μ-loop
 enum-known-found-2 c = search needs
@@ -73,7 +85,7 @@ loop-less-2 c =
 loop-again-2 : tie.Need-loop-again-2 Inv-loop μ-loop
 loop-again-2 c =
     let t = turn-token (c .before .before .before .before .before .before .before .before .before .before .before .before .before .before .args .file .now) (c .before .before .before .before .before .before .before .before .before .before .before .before .before .before .args .table .now) (c .before .before .before .before .before .before .before .before .before .before .before .loop .table) (c .before .before .before .before .before .before .before .before .before .before .before .loop .at) (c .before .before .before .before .before .before .before .before .before .before .before .loop .count) (c .before .before .before .before .before .before .before .before .before .before .before .loop .line) (c .before .before .before .before .before .before .before .before .before .before .before .loop .inv) (omega arith) (c .before .before .before .before .before .found2 .given .0 .0) (c .before .before .before .before .before .found2 .given .0 .1 .0) (c .before .before .before .before .before .found2 .given .0 .1 .1 .0) (c .before .before .before .before .before .found2 .given .0 .1 .1 .1 .0) (sym (c .before .before .before .before .before .before .before .before .before .lexeme .ensures) ∙ c .before .before .before .before .before .found2 .given .1) in
-    rw (c .before .before .put3 .ensures, c .before .before .before .before .before .before .before .is-terminate .ensures) (t .0)
+    rw (c .before .before .put3 .ensures, line-starts (c .before .before .before .before .before .before .before)) (t .0)
 
 enum-known-found-3 : tie.Need-enum-known-found-3 Inv-loop μ-loop
 enum-known-found-3 c = search needs

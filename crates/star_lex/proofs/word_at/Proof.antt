@@ -5,9 +5,8 @@ use mathlib.Core.List.{List, _∷_}
 use Prim.Native.Nat.{ℕ, _+_}
 use native.Mathlib.Omega.{arith}
 use borrow.Author.Needs.{needs}
-use lib.Dec.{ltb}
 use lib.ListN.{length, getD, drop, length-drop}
-use Rattle.star_text.specs.Bytes.{run, isWhite, classOf}
+use Rattle.star_text.specs.Bytes.{run, isWhite, belowIn}
 use Rattle.star_text.proofs.Run.{run-length}
 use Rattle.star_lex.specs.Split.{wordFrom, wordLexeme}
 use Rattle.star_lex.specs.Found.{kindOf}
@@ -29,7 +28,7 @@ part-word-kind-start : tie.Need-part-word-kind-start
 part-word-kind-start c = search needs
 
 part-word-kind-end : tie.Need-part-word-kind-end
-part-word-kind-end c = omega (arith, c .run-end .ensures, run-length (λ b. ltb (classOf b) 2) (drop ((c .before .before .args .at) + 1) (c .before .before .args .file .now)), length-drop ((c .before .before .args .at) + 1) (c .before .before .args .file .now))
+part-word-kind-end c = omega (arith, c .run-end .ensures, run-length (belowIn (c .before .before .args .classes .now) 2) (drop ((c .before .before .args .at) + 1) (c .before .before .args .file .now)), length-drop ((c .before .before .args .at) + 1) (c .before .before .args .file .now))
 
 word-kind-requires : tie.Need-word-kind-requires
 word-kind-requires c κs = search needs
@@ -43,7 +42,7 @@ lead-requires c κs = search needs
 add-t14 : tie.Need-add-t14
 add-t14 c =
     let w : List ℕ = run (λ x. not (isWhite x)) (drop ((c .before .before .before .before .before .before .before .before .args .at) + 1) (c .before .before .before .before .before .before .before .before .args .file .now)) in
-    let p = word-part (c .before .before .before .before .before .before .before .before .args .file .now) (c .before .before .before .before .before .before .before .before .args .at) (c .before .before .before .before .before .before .run-end .result) (c .before .before .before .before .before .before .before .before .pre .0) (λ i. omega (arith, c .before .before .before .before .before .before .before .shared-slice-known .given i)) (c .before .before .before .before .before .before .run-end .ensures) in
+    let p = word-part (c .before .before .before .before .before .before .before .before .pre .1 .1) (c .before .before .before .before .before .before .before .before .args .file .now) (c .before .before .before .before .before .before .before .before .args .at) (c .before .before .before .before .before .before .run-end .result) (c .before .before .before .before .before .before .before .before .pre .0) (λ i. omega (arith, c .before .before .before .before .before .before .before .shared-slice-known .given i)) (c .before .before .before .before .before .before .run-end .ensures) in
     let e : c .before .before .before .before .word-kind .result ≡ Kind (c .before .before .kind .given .0 .0) = c .before .before .kind .given .1 in
     omega (
       arith,
@@ -61,7 +60,7 @@ returns : tie.Need-returns
 unfolding wordFrom
 returns c =
     let w : List ℕ = run (λ x. not (isWhite x)) (drop ((c .before .before .before .before .before .before .before .before .args .at) + 1) (c .before .before .before .before .before .before .before .before .args .file .now)) in
-    let p = word-part (c .before .before .before .before .before .before .before .before .args .file .now) (c .before .before .before .before .before .before .before .before .args .at) (c .before .before .before .before .before .before .run-end .result) (c .before .before .before .before .before .before .before .before .pre .0) (λ i. omega (arith, c .before .before .before .before .before .before .before .shared-slice-known .given i)) (c .before .before .before .before .before .before .run-end .ensures) in
+    let p = word-part (c .before .before .before .before .before .before .before .before .pre .1 .1) (c .before .before .before .before .before .before .before .before .args .file .now) (c .before .before .before .before .before .before .before .before .args .at) (c .before .before .before .before .before .before .run-end .result) (c .before .before .before .before .before .before .before .before .pre .0) (λ i. omega (arith, c .before .before .before .before .before .before .before .shared-slice-known .given i)) (c .before .before .before .before .before .before .run-end .ensures) in
     let e : c .before .before .before .before .word-kind .result ≡ Kind (c .before .before .kind .given .0 .0) = c .before .before .kind .given .1 in
     rw (c .lead .ensures, p .0) (sym (word-found (c .before .before .before .before .before .before .before .before .args .at) (length w) (c .before .before .kind .given .0 .0) (getD (c .before .before .before .before .before .before .before .before .args .file .now) (c .before .before .before .before .before .before .before .before .args .at) 0 ∷ w) refl
     (sym e ∙ c .before .before .before .before .word-kind .ensures (length w) ∙ ap (λ l. kindOf (wordLexeme (length w) l)) (p .1))))
@@ -70,7 +69,7 @@ returns-2 : tie.Need-returns-2
 unfolding wordFrom
 returns-2 c =
     let w : List ℕ = run (λ x. not (isWhite x)) (drop ((c .before .before .before .before .before .before .before .args .at) + 1) (c .before .before .before .before .before .before .before .args .file .now)) in
-    let p = word-part (c .before .before .before .before .before .before .before .args .file .now) (c .before .before .before .before .before .before .before .args .at) (c .before .before .before .before .before .run-end .result) (c .before .before .before .before .before .before .before .pre .0) (λ i. omega (arith, c .before .before .before .before .before .before .shared-slice-known .given i)) (c .before .before .before .before .before .run-end .ensures) in
+    let p = word-part (c .before .before .before .before .before .before .before .pre .1 .1) (c .before .before .before .before .before .before .before .args .file .now) (c .before .before .before .before .before .before .before .args .at) (c .before .before .before .before .before .run-end .result) (c .before .before .before .before .before .before .before .pre .0) (λ i. omega (arith, c .before .before .before .before .before .before .shared-slice-known .given i)) (c .before .before .before .before .before .run-end .ensures) in
     let e : c .before .before .before .word-kind .result ≡ Ill (c .before .number .given .0 .0) = c .before .number .given .1 in
     sym (word-ill (c .before .before .before .before .before .before .before .args .at) (length w) (c .before .number .given .0 .0) (getD (c .before .before .before .before .before .before .before .args .file .now) (c .before .before .before .before .before .before .before .args .at) 0 ∷ w)
     (sym e ∙ c .before .before .before .word-kind .ensures (length w) ∙ ap (λ l. kindOf (wordLexeme (length w) l)) (p .1)))

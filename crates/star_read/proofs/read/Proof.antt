@@ -4,10 +4,16 @@ use Prim.Native.Nat.{ℕ}
 use borrow.Author.Needs.{needs}
 use lib.ListN.{length}
 use mathlib.Core.List.{List}
+use Rattle.star_lex.specs.Tokens.{Placed}
 use Rattle.star_lex.specs.Split.{placed, tokensOf}
+use Rattle.star_lex.specs.Split as Split
+use Rattle.star_lex.specs.Found.{tokensIn}
+use Rattle.star_unique.specs.Repeat.{nothing, firstRepeat}
+use Rattle.star_unique.specs.Holds.{fileTokens}
 use Rattle.star_read.specs.Read.{Outcome, Sizes, fitting, grammarOf}
 use Rattle.star_read.specs.Answer.{answerOf, words, Leaves, Tables}
-use Rattle.star_read.proofs.Starting.{in-accepted, table-holds, read-refused, read-after}
+use Rattle.star_unique.proofs.Comparing.{compared-accepted, table-holds}
+use Rattle.star_read.proofs.Starting.{read-refused, read-after}
 use Rattle.star_read.proofs.read.Statement.{statement}
 use Rattle.star_read.proofs.read.Tie as tie
 
@@ -19,6 +25,18 @@ leaves-after : (file : List ℕ) (w : ℕ → Sizes) {m n : ℕ} → m ≡ n →
     → {t : Tables} → Leaves (fitting (w m) (grammarOf (length file) (placed (tokensOf file)))) (w m) t → Leaves p (w n) t
 leaves-after file w {n = n} k e {t} l =
     subst (λ x. Leaves x (w n) t) (sym e) (subst (λ x. Leaves (fitting (w x) (grammarOf (length file) (placed (tokensOf file)))) (w x) t) k l)
+
+abbrev entry : tie.After-read-tokens → tie.Start
+entry c = c .before .before .before .before .before .before .before .before
+
+-- the words of the tables, so many of table 1
+abbrev sizes : tie.After-read-tokens → ℕ → Sizes
+sizes c n =
+    let args = entry c .args in
+    words n (length (args .sets .now)) (length (args .names .now)) (length (args .packets .now)) (length (args .values .now))
+
+abbrev whole : tie.After-read-tokens → Sizes
+whole c = sizes c (length (entry c .args .tokens .now))
 
 read-tokens-requires : tie.Need-read-tokens-requires
 read-tokens-requires c κs = search needs
@@ -43,15 +61,27 @@ same-length-5 c = search needs
 
 returns : tie.Need-returns
 returns c =
-    let o = read-refused (c .before .before .before .before .before .before .before .before .before .before .before .before .before .before .before .before .before .before .before .before .before .before .before .before .before .before .before .before .args .file .now) (words (length (c .before .before .before .before .before .before .before .before .before .before .before .before .before .before .before .before .before .before .before .before .before .before .before .before .before .before .before .before .args .tokens .now)) (length (c .before .before .before .before .before .before .before .before .before .before .before .before .before .before .before .before .before .before .before .before .before .before .before .before .before .before .before .before .args .sets .now)) (length (c .before .before .before .before .before .before .before .before .before .before .before .before .before .before .before .before .before .before .before .before .before .before .before .before .before .before .before .before .args .names .now)) (length (c .before .before .before .before .before .before .before .before .before .before .before .before .before .before .before .before .before .before .before .before .before .before .before .before .before .before .before .before .args .packets .now)) (length (c .before .before .before .before .before .before .before .before .before .before .before .before .before .before .before .before .before .before .before .before .before .before .before .before .before .before .before .before .args .values .now))) (c .before .before .before .before .before .before .before .before .before .before .before .before .before .before .before .before .before .before .before .before .read-tokens .result) (c .before .before .before .before .before .before .before .before .before .before .before .before .before .before .before .before .before .before .before .before .read-tokens .ensures .0) (c .before .before .before .before .before .before .before .before .before .before .before .before .before .before .before .before .if1 .taken) in (
-      c .before .before .before .before .before .before .before .before .before .before .refuse .ensures .0 ∙ sym (ap answerOf o),
-      leaves-at o (c .before .before .before .before .before .before .before .before .before .before .before .before .before .before .before .before .before .before .before .before .read-tokens .kept .1 .0) (λ n. (words n (length (c .before .before .before .before .before .before .before .before .before .before .before .before .before .before .before .before .before .before .before .before .before .before .before .before .before .before .before .before .args .sets .now)) (length (c .before .before .before .before .before .before .before .before .before .before .before .before .before .before .before .before .before .before .before .before .before .before .before .before .before .before .before .before .args .names .now)) (length (c .before .before .before .before .before .before .before .before .before .before .before .before .before .before .before .before .before .before .before .before .before .before .before .before .before .before .before .before .args .packets .now)) (length (c .before .before .before .before .before .before .before .before .before .before .before .before .before .before .before .before .before .before .before .before .before .before .before .before .before .before .before .before .args .values .now)))) (c .before .before .before .before .before .before .before .before .before .before .refuse .ensures .1),
-    )
+    let refused = c .before .before .before .before .before .before .before .before .before .before in
+    let split = refused .before .before .before .before .before .before .before .before .before .before in
+    let o = read-refused (entry split .args .file .now) (whole split) (split .read-tokens .result) (split .read-tokens .ensures .0) (refused .before .before .before .before .before .before .if1 .taken) in
+    (refused .refuse .ensures .0 ∙ sym (ap answerOf o), leaves-at o (split .read-tokens .kept .1 .0) (sizes split) (refused .refuse .ensures .1))
+
+abbrev splits : tie.Else1 → tie.After-read-tokens
+splits c = c .before .before .before .before
+
+-- the tokens
+tokens : (c : tie.Else1)
+    → (ps : List Placed) × (tokensIn (entry (splits c) .args .file .now) (length (entry (splits c) .args .tokens .now)) ≡ Split.accepted ps)
+    × (splits c .read-tokens .result .count ≡ length ps)
+    × (splits c .read-tokens .result .taken ≡ firstRepeat nothing (fileTokens (entry (splits c) .args .file .now)))
+tokens c = compared-accepted _ _ (splits c .read-tokens .result) (splits c .read-tokens .ensures .0) (c .if1 .left)
 
 read-tables-requires : tie.Need-read-tables-requires
 read-tables-requires c κs =
-    let q = in-accepted (c .before .before .before .before .before .before .before .before .before .before .before .before .before .before .before .before .before .args .file .now) (length (c .before .before .before .before .before .before .before .before .before .before .before .before .before .before .before .before .before .args .tokens .now)) (c .before .before .before .before .before .before .before .before .before .read-tokens .result) (c .before .before .before .before .before .before .before .before .before .read-tokens .ensures .0) (c .before .before .before .before .before .if1 .left) in
-    table-holds (c .before .before .before .before .before .before .before .before .before .before .before .before .before .before .before .before .before .args .file .now) (c .before .before .before .before .before .before .before .before .before .read-tokens .last .1 .0) (length (c .before .before .before .before .before .before .before .before .before .before .before .before .before .before .before .before .before .args .tokens .now)) (c .before .before .before .before .before .before .before .before .before .read-tokens .result .count) (q .0) (q .1) (q .2) (c .before .before .before .before .before .before .before .before .before .read-tokens .kept .1 .0) (c .before .before .before .before .before .before .before .before .before .read-tokens .ensures .1)
+    let else = c .before .before .before .before .before in
+    let t = tokens else in
+    let split = splits else .read-tokens in
+    (table-holds _ _ (t .0) (t .1) _ _ (t .2) (split .kept .1 .0) (split .ensures .1), t .3)
 
 same-length-6 : tie.Need-same-length-6
 same-length-6 c = search needs
@@ -70,11 +100,14 @@ same-length-10 c = search needs
 
 returns-2 : tie.Need-returns-2
 returns-2 c =
-    let q = in-accepted (c .before .before .before .before .before .before .before .before .before .before .before .before .before .before .before .before .before .before .before .before .before .before .before .before .before .before .before .before .args .file .now) (length (c .before .before .before .before .before .before .before .before .before .before .before .before .before .before .before .before .before .before .before .before .before .before .before .before .before .before .before .before .args .tokens .now)) (c .before .before .before .before .before .before .before .before .before .before .before .before .before .before .before .before .before .before .before .before .read-tokens .result) (c .before .before .before .before .before .before .before .before .before .before .before .before .before .before .before .before .before .before .before .before .read-tokens .ensures .0) (c .before .before .before .before .before .before .before .before .before .before .before .before .before .before .before .before .if1 .left) in
-    let o = read-after (c .before .before .before .before .before .before .before .before .before .before .before .before .before .before .before .before .before .before .before .before .before .before .before .before .before .before .before .before .args .file .now) (words (length (c .before .before .before .before .before .before .before .before .before .before .before .before .before .before .before .before .before .before .before .before .before .before .before .before .before .before .before .before .args .tokens .now)) (length (c .before .before .before .before .before .before .before .before .before .before .before .before .before .before .before .before .before .before .before .before .before .before .before .before .before .before .before .before .args .sets .now)) (length (c .before .before .before .before .before .before .before .before .before .before .before .before .before .before .before .before .before .before .before .before .before .before .before .before .before .before .before .before .args .names .now)) (length (c .before .before .before .before .before .before .before .before .before .before .before .before .before .before .before .before .before .before .before .before .before .before .before .before .before .before .before .before .args .packets .now)) (length (c .before .before .before .before .before .before .before .before .before .before .before .before .before .before .before .before .before .before .before .before .before .before .before .before .before .before .before .before .args .values .now))) (q .0) (q .1) in
-    let l = c .before .before .before .before .before .before .before .before .before .before .before .before .before .before .before .before .before .before .before .before .read-tokens .kept .1 .0 in (
-      c .before .before .before .before .before .before .before .before .before .before .read-tables .ensures .0 ∙ ap (λ n. answerOf (fitting (words n (length (c .before .before .before .before .before .before .before .before .before .before .before .before .before .before .before .before .before .before .before .before .before .before .before .before .before .before .before .before .args .sets .now)) (length (c .before .before .before .before .before .before .before .before .before .before .before .before .before .before .before .before .before .before .before .before .before .before .before .before .before .before .before .before .args .names .now)) (length (c .before .before .before .before .before .before .before .before .before .before .before .before .before .before .before .before .before .before .before .before .before .before .before .before .before .before .before .before .args .packets .now)) (length (c .before .before .before .before .before .before .before .before .before .before .before .before .before .before .before .before .before .before .before .before .before .before .before .before .before .before .before .before .args .values .now))) (grammarOf (length (c .before .before .before .before .before .before .before .before .before .before .before .before .before .before .before .before .before .before .before .before .before .before .before .before .before .before .before .before .args .file .now)) (placed (tokensOf (c .before .before .before .before .before .before .before .before .before .before .before .before .before .before .before .before .before .before .before .before .before .before .before .before .before .before .before .before .args .file .now)))))) l ∙ sym (ap answerOf o),
-      leaves-after (c .before .before .before .before .before .before .before .before .before .before .before .before .before .before .before .before .before .before .before .before .before .before .before .before .before .before .before .before .args .file .now) (λ n. (words n (length (c .before .before .before .before .before .before .before .before .before .before .before .before .before .before .before .before .before .before .before .before .before .before .before .before .before .before .before .before .args .sets .now)) (length (c .before .before .before .before .before .before .before .before .before .before .before .before .before .before .before .before .before .before .before .before .before .before .before .before .before .before .before .before .args .names .now)) (length (c .before .before .before .before .before .before .before .before .before .before .before .before .before .before .before .before .before .before .before .before .before .before .before .before .before .before .before .before .args .packets .now)) (length (c .before .before .before .before .before .before .before .before .before .before .before .before .before .before .before .before .before .before .before .before .before .before .before .before .before .before .before .before .args .values .now)))) l o (c .before .before .before .before .before .before .before .before .before .before .read-tables .ensures .1),
+    let read = c .before .before .before .before .before .before .before .before .before .before in
+    let else = read .before .before .before .before .before .before in
+    let split = splits else in
+    let file = entry split .args .file .now in
+    let o = read-after file (whole split) (tokens else .0) (tokens else .1) in
+    let l = split .read-tokens .kept .1 .0 in (
+      read .read-tables .ensures .0 ∙ ap (λ n. answerOf (fitting (sizes split n) (grammarOf (length file) (placed (tokensOf file))))) l ∙ sym (ap answerOf o),
+      leaves-after file (sizes split) l o (read .read-tables .ensures .1),
     )
 
 pub read-spec : {M : Type 1} → statement M

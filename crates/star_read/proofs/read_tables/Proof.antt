@@ -1,6 +1,5 @@
 -- `read_tables` meets its contract: what `judge` refuses is refused with cleared tables, and else the rows that were stored are all there.
 use mathlib.Core.Path.{_≡_, sym, _∙_, ap, subst}
-use native.Mathlib.Omega.{arith}
 use borrow.Author.Needs.{needs}
 use lib.ListN.{length}
 use Rattle.star_lex.specs.Split.{placed, tokensOf}
@@ -8,42 +7,66 @@ use Rattle.star_grammar.specs.Tables.{noRows}
 use Rattle.star_grammar.specs.Machine.{run, start}
 use Rattle.star_grammar.specs.Parsed.{FourTables, Answers, tables as four}
 use Rattle.star_unique.specs.Holds.{fileTokens}
-use Rattle.star_unique.proofs.Held.{count-small}
 use Rattle.star_read.specs.Read.{accepted, fitting, grammarOf}
 use Rattle.star_read.specs.Answer.{answerOf}
 use Rattle.star_read.proofs.Settling.{SameSizes, sizesOf, held-run, answer-ran, outcome-refused, outcome-settled, rows-accepted, cleared-held, leaves-refused, accepted-answer, accepted-leaves}
 use Rattle.star_read.proofs.read_tables.Statement.{statement}
 use Rattle.star_read.proofs.read_tables.Tie as tie
 
+abbrev entry : tie.After-read-rows → tie.Start
+entry c = c .before .before .before .before .before .before .before .before .before .before .before .before
+
+-- tables 2 to 5 before the rows were read, and after
+abbrev old : tie.After-read-rows → FourTables
+old c = four (entry c .args .sets .now) (entry c .args .names .now) (entry c .args .packets .now) (entry c .args .values .now)
+
+abbrev new : tie.After-read-rows → FourTables
+new c =
+    let last = c .read-rows .last .1 .1 in
+    four (last .0) (last .1 .0) (last .1 .1 .0) (last .1 .1 .1 .0)
+
+same : (c : tie.After-read-rows) → SameSizes (old c) (new c)
+same c =
+    let kept = c .read-rows .kept .1 .1 in
+    record { sets = kept .0; names = kept .1 .0; packets = kept .1 .1 .0; values = kept .1 .1 .1 .0 }
+
 read-rows-requires : tie.Need-read-rows-requires
-read-rows-requires c κs =
-    let entry = c .before .before .before .before .before .before .before .before .before .before .before in
-    (omega (arith, entry .pre .room, entry .pre .count-is), count-small _ _ _ (entry .pre))
+read-rows-requires c κs = search needs
 
 judge-requires : tie.Need-judge-requires
 judge-requires c κs =
-    let entry = c .before .before .before .before .before .before .before .before .before .before .before .before .before .before .before .before .before .before .before .before .before in
-    let tokens = entry .args .tokens .now in
-    let file = entry .args .file .now in
-    let old : FourTables = four (entry .args .sets .now) (entry .args .names .now) (entry .args .packets .now) (entry .args .values .now) in
-    let rows = c .before .before .before .before .before .before .before .before .before .read-rows in
-    let new : FourTables = four (rows .last .1 .1 .0) (rows .last .1 .1 .1 .0) (rows .last .1 .1 .1 .1 .0) (rows .last .1 .1 .1 .1 .1 .0) in (
-      entry .pre,
-      answer-ran (run 8 start (fileTokens file) noRows) (entry .args .count) old new (rows .result)
-          (subst (λ x. Answers (entry .args .count) x old (rows .result) new) (held-run file tokens (entry .args .count) (entry .pre)) (rows .ensures)),
+    let read = c .before .before .before .before .before .before .before .before .before in
+    let at = entry read in
+    let file = at .args .file .now in (
+      at .pre .0,
+      (
+        at .pre .1,
+        answer-ran (run 8 start (fileTokens file) noRows) (at .args .count) (old read) (new read) (read .read-rows .result)
+            (subst (λ x. Answers (at .args .count) x (old read) (read .read-rows .result) (new read)) (held-run file (at .args .tokens .now) (at .args .count) (at .pre .0)) (read .read-rows .ensures .0)),
+      ),
     )
 
 refuse-requires : tie.Need-refuse-requires
 refuse-requires c κs = search needs
 
+abbrev rows-read : tie.After-judge → tie.After-read-rows
+rows-read c = c .before .before .before .before .before .before .before .before .before .before
+
+abbrev refused-at : tie.After-refuse → tie.After-judge
+refused-at c = c .before .before .before .before .before .before .before .before
+
 same-length : tie.Need-same-length
 same-length c = search needs
 
 same-length-2 : tie.Need-same-length-2
-same-length-2 c = c .before .before .before .before .before .before .before .before .before .before .refuse .kept .1 .0 ∙ c .before .before .before .before .before .before .before .before .before .before .before .before .before .before .before .before .before .before .before .before .before .before .before .before .before .before .before .before .before .before .read-rows .kept .1 .1 .0
+same-length-2 c =
+    let refused = c .before .before .before .before .before .before .before .before .before .before in
+    refused .refuse .kept .1 .0 ∙ rows-read (refused-at refused) .read-rows .kept .1 .1 .0
 
 same-length-3 : tie.Need-same-length-3
-same-length-3 c = c .before .before .before .before .before .before .before .before .before .before .refuse .kept .1 .1 .0 ∙ c .before .before .before .before .before .before .before .before .before .before .before .before .before .before .before .before .before .before .before .before .before .before .before .before .before .before .before .before .before .before .read-rows .kept .1 .1 .1 .0
+same-length-3 c =
+    let refused = c .before .before .before .before .before .before .before .before .before .before in
+    refused .refuse .kept .1 .1 .0 ∙ rows-read (refused-at refused) .read-rows .kept .1 .1 .1 .0
 
 same-length-4 : tie.Need-same-length-4
 same-length-4 c = search needs
@@ -53,17 +76,12 @@ same-length-5 c = search needs
 
 returns : tie.Need-returns
 returns c =
-    let entry = c .before .before .before .before .before .before .before .before .before .before .before .before .before .before .before .before .before .before .before .before .before .before .before .before .before .before .before .before .before .before .before .before .before .before .before .before .before .before .before .before .before .before in
-    let tokens = entry .args .tokens .now in
-    let file = entry .args .file .now in
-    let old : FourTables = four (entry .args .sets .now) (entry .args .names .now) (entry .args .packets .now) (entry .args .values .now) in
-    let rows = c .before .before .before .before .before .before .before .before .before .before .before .before .before .before .before .before .before .before .before .before .before .before .before .before .before .before .before .before .before .before .read-rows in
-    let new : FourTables = four (rows .last .1 .1 .0) (rows .last .1 .1 .1 .0) (rows .last .1 .1 .1 .1 .0) (rows .last .1 .1 .1 .1 .1 .0) in
-    let sizes : SameSizes old new = record { sets = rows .kept .1 .1 .0; names = rows .kept .1 .1 .1 .0; packets = rows .kept .1 .1 .1 .1 .0; values = rows .kept .1 .1 .1 .1 .1 .0 } in
-    let judged = c .before .before .before .before .before .before .before .before .before .before .before .before .before .before .before .before .before .before .before .before .judge in
-    let refused = c .before .before .before .before .before .before .before .before .before .before .refuse in
-    let o = outcome-refused file tokens (entry .args .count) (entry .pre) old new sizes (rows .result) (rows .ensures) (judged .result) (judged .ensures .0) (c .before .before .before .before .before .before .before .before .before .before .before .before .before .before .before .before .if1 .taken) in
-    (refused .ensures .0 ∙ sym (ap answerOf o), leaves-refused tokens old new sizes _ _ _ o (rw (judged .ensures .1) at (refused .ensures .1)))
+    let refused = c .before .before .before .before .before .before .before .before .before .before in
+    let judged = refused-at refused in
+    let read = rows-read judged in
+    let at = entry read in
+    let o = outcome-refused (at .args .file .now) (at .args .tokens .now) (at .args .count) (at .pre .0) (old read) (new read) (same read) (read .read-rows .result) (read .read-rows .ensures .0) (judged .judge .result) (judged .judge .ensures) (refused .before .before .before .before .before .before .if1 .taken) in
+    (refused .refuse .ensures .0 ∙ sym (ap answerOf o), leaves-refused (at .args .tokens .now) (old read) (new read) (same read) _ _ _ o (refused .refuse .ensures .1))
 
 clear-behind-requires : tie.Need-clear-behind-requires
 clear-behind-requires c κs = search needs
@@ -86,20 +104,19 @@ same-length-10 c = search needs
 returns-2 : tie.Need-returns-2
 unfolding grammarOf
 returns-2 c =
-    let entry = c .before .before .before .before .before .before .before .before .before .before .before .before .before .before .before .before .before .before .before .before .before .before .before .before .before .before .before .before .before .before .before .before .before .before .before .before .before .before .before in
-    let tokens = entry .args .tokens .now in
-    let file = entry .args .file .now in
-    let old : FourTables = four (entry .args .sets .now) (entry .args .names .now) (entry .args .packets .now) (entry .args .values .now) in
-    let rows = c .before .before .before .before .before .before .before .before .before .before .before .before .before .before .before .before .before .before .before .before .before .before .before .before .before .before .before .read-rows in
-    let new : FourTables = four (rows .last .1 .1 .0) (rows .last .1 .1 .1 .0) (rows .last .1 .1 .1 .1 .0) (rows .last .1 .1 .1 .1 .1 .0) in
-    let sizes : SameSizes old new = record { sets = rows .kept .1 .1 .0; names = rows .kept .1 .1 .1 .0; packets = rows .kept .1 .1 .1 .1 .0; values = rows .kept .1 .1 .1 .1 .1 .0 } in
-    let judged = c .before .before .before .before .before .before .before .before .before .before .before .before .before .before .before .before .before .judge in
-    let s = outcome-settled file tokens (entry .args .count) (entry .pre) old new sizes (rows .result) (rows .ensures) (judged .result) (judged .ensures .0) (c .before .before .before .before .before .before .before .before .before .before .before .before .before .if1 .left) in
-    let a = rows-accepted file tokens (entry .args .count) (entry .pre) old new sizes (rows .result) (rows .ensures) (judged .result) (judged .ensures .0) (s .rows) (s .is-good) in
-    let k = cleared-held (entry .args .count) (s .rows) old new _ (rows .result) a (c .before .before .before .before .before .before .before .before .clear-behind .ensures) (s .room .sets) (s .room .names) (s .room .packets) (s .room .values) in
-    let o : fitting (sizesOf (length tokens) old) (grammarOf (length file) (placed (tokensOf file))) ≡ accepted (placed (tokensOf file)) (s .rows) = s .outcome in (
-      accepted-answer _ (placed (tokensOf file)) (s .rows) (entry .args .count) old new (rows .result) o (entry .pre .count-is) a,
-      rw (judged .ensures .1) (accepted-leaves _ (placed (tokensOf file)) (s .rows) tokens old _ o (entry .pre .rows) k),
+    let cleared = c .before .before .before .before .before .before .before .before in
+    let judged = cleared .before .before .before .before .before .before .before in
+    let read = rows-read judged in
+    let at = entry read in
+    let tokens = at .args .tokens .now in
+    let file = at .args .file .now in
+    let rows = read .read-rows in
+    let s = outcome-settled file tokens (at .args .count) (at .pre .0) (old read) (new read) (same read) (rows .result) (rows .ensures .0) (judged .judge .result) (judged .judge .ensures) (cleared .before .before .before .before .before .if1 .left) in
+    let a = rows-accepted file tokens (at .args .count) (at .pre .0) (old read) (new read) (same read) (rows .result) (rows .ensures .0) (judged .judge .result) (judged .judge .ensures) (s .rows) (s .is-good) in
+    let k = cleared-held (at .args .count) (s .rows) (old read) (new read) _ (rows .result) a (cleared .clear-behind .ensures) (s .room .sets) (s .room .names) (s .room .packets) (s .room .values) in
+    let o : fitting (sizesOf (length tokens) (old read)) (grammarOf (length file) (placed (tokensOf file))) ≡ accepted (placed (tokensOf file)) (s .rows) = s .outcome in (
+      accepted-answer _ (placed (tokensOf file)) (s .rows) (at .args .count) (old read) (new read) (rows .result) o (at .pre .0 .count-is) a,
+      accepted-leaves _ (placed (tokensOf file)) (s .rows) tokens (old read) _ o (at .pre .0 .rows) k,
     )
 
 pub read-tables-spec : {M : Type 1} → statement M

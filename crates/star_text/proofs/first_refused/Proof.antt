@@ -7,13 +7,13 @@ use borrow.Author.Needs.{needs}
 use borrow.Author.Tests.{not-true, not-false}
 use denote.Ref.{now}
 use lib.ListN.{length, drop}
-use Rattle.star_text.specs.Bytes.{run, isAllowed, firstRefused}
+use Rattle.star_text.specs.Bytes.{firstRefusedIn}
 use Rattle.star_text.proofs.Run.{run-goes, run-stops, run-ends}
 use Rattle.star_text.proofs.first_refused.Statement.{statement}
 use Rattle.star_text.proofs.first_refused.Tie as tie
 
 abbrev Inv-loop : tie.InvT-loop
-Inv-loop classes file at₀ at = (at ≤ length file) × (at + length (run isAllowed (drop at file)) ≡ length (run isAllowed file))
+Inv-loop classes file at₀ at = (at ≤ length file) × (at + firstRefusedIn classes (drop at file) ≡ firstRefusedIn classes file)
 
 abbrev μ-loop : tie.MeasureT-loop
 μ-loop classes file at₀ at = length file - at
@@ -31,9 +31,8 @@ is-allowed-requires : tie.Need-is-allowed-requires Inv-loop μ-loop
 is-allowed-requires c κs = search needs
 
 returns : tie.Need-returns Inv-loop μ-loop
-unfolding firstRefused
 returns c =
-    sym (run-stops isAllowed (now (c .before .before .before .before .before .before .before .args .file)) (c .before .before .before .before .loop .at) (omega arith)
+    sym (run-stops _ (now (c .before .before .before .before .before .before .before .args .file)) (c .before .before .before .before .loop .at) (omega arith)
     (sym (c .before .is-allowed .ensures) ∙ not-true _ (c .if1 .taken)))
     ∙ c .before .before .before .before .loop .inv .1
 
@@ -46,15 +45,14 @@ loop-less c = omega arith
 loop-again : tie.Need-loop-again Inv-loop μ-loop
 loop-again c = (
   omega arith,
-  sym (run-goes isAllowed (now (c .before .before .before .before .before .before .before .args .file)) (c .before .before .before .before .loop .at) (omega arith)
+  sym (run-goes _ (now (c .before .before .before .before .before .before .before .args .file)) (c .before .before .before .before .loop .at) (omega arith)
       (sym (c .before .is-allowed .ensures) ∙ not-false _ (c .if1 .left)))
       ∙ c .before .before .before .before .loop .inv .1,
 )
 
 returns-2 : tie.Need-returns-2 Inv-loop μ-loop
-unfolding firstRefused
 returns-2 c =
-    sym (run-ends isAllowed (now (c .before .before .before .before .args .file)) (c .before .loop .at) (omega arith)) ∙ c .before .loop .inv .1
+    sym (run-ends _ (now (c .before .before .before .before .args .file)) (c .before .loop .at) (omega arith)) ∙ c .before .loop .inv .1
 
 pub first-refused-spec : {M : Type 1} → statement M
 first-refused-spec =

@@ -5,11 +5,14 @@ use Prim.Native.Nat.{_+_}
 use native.Mathlib.Nat.{add-zero}
 use borrow.Author.Tests.{not-false}
 use lib.ListN.{getD}
-use Rattle.star_text.specs.Bytes.{isAllowed}
+use Rattle.star_text.specs.Bytes.{allowedIn}
 use Rattle.star_text.proofs.Run.{each-of-four, never}
 use borrow.Author.Needs.{needs}
 use Rattle.star_text.proofs.four_allowed.Statement.{statement}
 use Rattle.star_text.proofs.four_allowed.Tie as tie
+
+abbrev start : tie.Else4 → tie.Start
+start c = c .before .before .before .before .before .before .before .before .before .before .before .before .before
 
 shared-slice-read-is-allowed : tie.Need-shared-slice-read-is-allowed
 shared-slice-read-is-allowed c = search needs
@@ -57,7 +60,7 @@ returns-4 : tie.Need-returns-4
 returns-4 c = never
 
 returns-5 : tie.Need-returns-5
-returns-5 c = λ e. each-of-four (λ k. isAllowed (getD (c .before .before .before .before .before .before .before .before .before .before .before .before .before .args .file .now) (c .before .before .before .before .before .before .before .before .before .before .before .before .before .args .at + k) 0) ≡ true)
+returns-5 c = λ e. each-of-four (λ k. allowedIn (start c .args .classes .now) (getD (start c .args .file .now) (start c .args .at + k) 0) ≡ true)
     (rw add-zero (sym (c .before .before .before .before .before .before .before .before .before .before .is-allowed .ensures) ∙ not-false _ (c .before .before .before .before .before .before .before .before .before .if1 .left)))
     (sym (c .before .before .before .before .before .before .before .is-allowed2 .ensures) ∙ not-false _ (c .before .before .before .before .before .before .if2 .left))
     (sym (c .before .before .before .before .is-allowed3 .ensures) ∙ not-false _ (c .before .before .before .if3 .left))

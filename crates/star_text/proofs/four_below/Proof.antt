@@ -4,13 +4,15 @@ use mathlib.Core.Bool.{true}
 use Prim.Native.Nat.{_+_}
 use native.Mathlib.Nat.{add-zero}
 use borrow.Author.Tests.{lt-ltb}
-use lib.Dec.{ltb}
 use lib.ListN.{getD}
-use Rattle.star_text.specs.Bytes.{classOf}
+use Rattle.star_text.specs.Bytes.{belowIn}
 use Rattle.star_text.proofs.Run.{each-of-four, never}
 use borrow.Author.Needs.{needs}
 use Rattle.star_text.proofs.four_below.Statement.{statement}
 use Rattle.star_text.proofs.four_below.Tie as tie
+
+abbrev start : tie.Else4 → tie.Start
+start c = c .before .before .before .before .before .before .before .before .before .before .before .before .before
 
 shared-slice-read-class-of : tie.Need-shared-slice-read-class-of
 shared-slice-read-class-of c = search needs
@@ -58,11 +60,11 @@ returns-4 : tie.Need-returns-4
 returns-4 c = never
 
 returns-5 : tie.Need-returns-5
-returns-5 c = λ e. each-of-four (λ k. ltb (classOf (getD (c .before .before .before .before .before .before .before .before .before .before .before .before .before .args .file .now) (c .before .before .before .before .before .before .before .before .before .before .before .before .before .args .at + k) 0)) (c .before .before .before .before .before .before .before .before .before .before .before .before .before .args .class) ≡ true)
-    (rw (add-zero, ← c .before .before .before .before .before .before .before .before .before .before .class-of .ensures) (lt-ltb (c .before .before .before .before .before .before .before .before .before .before .class-of .result) (c .before .before .before .before .before .before .before .before .before .before .before .before .before .args .class) (c .before .before .before .before .before .before .before .before .before .if1 .left)))
-    (rw (← c .before .before .before .before .before .before .before .class-of2 .ensures) (lt-ltb (c .before .before .before .before .before .before .before .class-of2 .result) (c .before .before .before .before .before .before .before .before .before .before .before .before .before .args .class) (c .before .before .before .before .before .before .if2 .left)))
-    (rw (← c .before .before .before .before .class-of3 .ensures) (lt-ltb (c .before .before .before .before .class-of3 .result) (c .before .before .before .before .before .before .before .before .before .before .before .before .before .args .class) (c .before .before .before .if3 .left)))
-    (rw (← c .before .class-of4 .ensures) (lt-ltb (c .before .class-of4 .result) (c .before .before .before .before .before .before .before .before .before .before .before .before .before .args .class) (c .if4 .left)))
+returns-5 c = λ e. each-of-four (λ k. belowIn (start c .args .classes .now) (start c .args .class) (getD (start c .args .file .now) (start c .args .at + k) 0) ≡ true)
+    (rw (add-zero, ← c .before .before .before .before .before .before .before .before .before .before .class-of .ensures) (lt-ltb (c .before .before .before .before .before .before .before .before .before .before .class-of .result) (start c .args .class) (c .before .before .before .before .before .before .before .before .before .if1 .left)))
+    (rw (← c .before .before .before .before .before .before .before .class-of2 .ensures) (lt-ltb (c .before .before .before .before .before .before .before .class-of2 .result) (start c .args .class) (c .before .before .before .before .before .before .if2 .left)))
+    (rw (← c .before .before .before .before .class-of3 .ensures) (lt-ltb (c .before .before .before .before .class-of3 .result) (start c .args .class) (c .before .before .before .if3 .left)))
+    (rw (← c .before .class-of4 .ensures) (lt-ltb (c .before .class-of4 .result) (start c .args .class) (c .if4 .left)))
 
 pub four-below-spec : {M : Type 1} → statement M
 four-below-spec =

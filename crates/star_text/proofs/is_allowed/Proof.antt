@@ -1,6 +1,5 @@
--- `is_allowed` meets its contract by the rule of the table.
+-- `is_allowed` meets its contract by the class of the byte.
 use borrow.Author.Needs.{needs}
-use Rattle.star_text.proofs.Classes.{allowed-is}
 use Rattle.star_text.proofs.is_allowed.Statement.{statement}
 use Rattle.star_text.proofs.is_allowed.Tie as tie
 
@@ -8,7 +7,7 @@ class-of-requires : tie.Need-class-of-requires
 class-of-requires c κs = search needs
 
 returns : tie.Need-returns
-returns c = rw (c .class-of .ensures) (allowed-is (c .before .args .b) (c .before .fits .b .fits))
+returns c = rw (c .class-of .ensures)
 
 pub is-allowed-spec : {M : Type 1} → statement M
 is-allowed-spec = tie.close (tie.spec class-of-requires returns)

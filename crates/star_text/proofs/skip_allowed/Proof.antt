@@ -4,13 +4,13 @@ use Prim.Native.Nat.{_+_, _-_, _≤_}
 use native.Mathlib.Omega.{arith}
 use borrow.Author.Tests.{not-false}
 use lib.ListN.{length, drop}
-use Rattle.star_text.specs.Bytes.{run, isAllowed}
+use Rattle.star_text.specs.Bytes.{allowedIn, firstRefusedIn}
 use Rattle.star_text.proofs.Run.{run-goes-four}
 use Rattle.star_text.proofs.skip_allowed.Statement.{statement}
 use Rattle.star_text.proofs.skip_allowed.Tie as tie
 
 abbrev Inv-loop : tie.InvT-loop
-Inv-loop classes file at₀ at = (at ≤ length file) × (at + length (run isAllowed (drop at file)) ≡ length (run isAllowed file))
+Inv-loop classes file at₀ at = (at ≤ length file) × (at + firstRefusedIn classes (drop at file) ≡ firstRefusedIn classes file)
 
 abbrev μ-loop : tie.MeasureT-loop
 μ-loop classes file at₀ at = length file - at
@@ -22,7 +22,7 @@ sub-loop : tie.Need-sub-loop Inv-loop μ-loop
 sub-loop c = omega arith
 
 four-allowed-requires : tie.Need-four-allowed-requires Inv-loop μ-loop
-four-allowed-requires c κs = (c .before .before .before .pre, omega arith)
+four-allowed-requires c κs = omega arith
 
 returns : tie.Need-returns Inv-loop μ-loop
 returns c = c .before .before .before .loop .inv
@@ -36,7 +36,7 @@ loop-less c = omega arith
 loop-again : tie.Need-loop-again Inv-loop μ-loop
 loop-again c = (
   omega arith,
-  sym (run-goes-four isAllowed _ (c .before .before .before .loop .at) (omega arith) (c .before .four-allowed .ensures (not-false _ (c .if1 .left)))) ∙ c .before .before .before .loop .inv .1,
+  sym (run-goes-four _ _ (c .before .before .before .loop .at) (omega arith) (c .before .four-allowed .ensures (not-false _ (c .if1 .left)))) ∙ c .before .before .before .loop .inv .1,
 )
 
 returns-2 : tie.Need-returns-2 Inv-loop μ-loop

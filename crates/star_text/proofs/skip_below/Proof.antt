@@ -3,15 +3,14 @@ use mathlib.Core.Path.{_≡_, refl, sym, _∙_}
 use Prim.Native.Nat.{_+_, _-_}
 use native.Mathlib.Omega.{arith}
 use borrow.Author.Tests.{not-false}
-use lib.Dec.{ltb}
 use lib.ListN.{length, drop}
-use Rattle.star_text.specs.Bytes.{run, classOf}
+use Rattle.star_text.specs.Bytes.{run, belowIn}
 use Rattle.star_text.proofs.Run.{run-goes-four}
 use Rattle.star_text.proofs.skip_below.Statement.{statement}
 use Rattle.star_text.proofs.skip_below.Tie as tie
 
 abbrev Inv-loop : tie.InvT-loop
-Inv-loop classes file from class at₀ at = at + length (run (λ b. ltb (classOf b) class) (drop at file)) ≡ from + length (run (λ b. ltb (classOf b) class) (drop from file))
+Inv-loop classes file from class at₀ at = at + length (run (belowIn classes class) (drop at file)) ≡ from + length (run (belowIn classes class) (drop from file))
 
 abbrev μ-loop : tie.MeasureT-loop
 μ-loop classes file from class at₀ at = length file - at
@@ -26,7 +25,7 @@ returns : tie.Need-returns Inv-loop μ-loop
 returns c = c .before .before .loop .inv
 
 four-below-requires : tie.Need-four-below-requires Inv-loop μ-loop
-four-below-requires c κs = (c .before .before .before .before .pre, omega arith)
+four-below-requires c κs = omega arith
 
 returns-2 : tie.Need-returns-2 Inv-loop μ-loop
 returns-2 c = c .before .before .before .before .loop .inv

@@ -14,7 +14,7 @@ returns : tie.Need-returns
 returns c =
     let start = c .before .before in
     subst (λ r. LineEnd (start .args .file .now) (start .args .from) r) (sym (c .run-end .ensures))
-    (line-end (start .args .file .now) (start .args .from) (λ i. omega (arith, c .before .shared-slice-known .given i)))
+    (line-end (start .pre) (start .args .file .now) (start .args .from) (λ i. omega (arith, c .before .shared-slice-known .given i)))
 
 pub line-end-spec : {M : Type 1} → statement M
 line-end-spec = tie.close (tie.spec run-end-requires returns)

@@ -3,7 +3,9 @@ use mathlib.Core.Path.{_≡_, refl, sym, _∙_}
 use Prim.Native.Nat.{_-_}
 use native.Mathlib.Omega.{arith}
 use borrow.Author.Needs.{needs}
-use lib.ListN.{length, drop}
+use lib.ListN.{length, getD, drop}
+use Rattle.star_text.specs.Bytes.{isTerminate}
+use Rattle.star_text.proofs.Classes.{terminate-is}
 use Rattle.star_lex.specs.Split.{quoted}
 use Rattle.star_lex.specs.Found.{endOf}
 use Rattle.star_lex.proofs.Closing.{quote-at, quote-over}
@@ -33,12 +35,22 @@ shared-slice-read-is-terminate c = omega arith
 is-terminate-requires : tie.Need-is-terminate-requires Inv-loop μ-loop
 is-terminate-requires c κs = search needs
 
+abbrev loop-at : tie.After-is-terminate Inv-loop μ-loop → tie.At-loop Inv-loop μ-loop
+loop-at c = c .before .before .before .before .before
+
+-- the byte ends a line
+ends : (c : tie.After-is-terminate Inv-loop μ-loop)
+    → c .is-terminate .result ≡ isTerminate (getD (loop-at c .before .before .args .file .now) (loop-at c .loop .at) 0)
+ends c =
+    c .is-terminate .ensures
+    ∙ terminate-is (loop-at c .before .before .pre) _ (omega (arith, c .before .shared-slice-known2 .given (loop-at c .loop .at)))
+
 returns-2 : tie.Need-returns-2 Inv-loop μ-loop
 returns-2 c =
     sym (quote-at _ _ (c .before .before .before .before .before .before .loop .at) _ (omega arith)
     ∙ (rw (
       sym (c .before .before .before .before .quote-closes .ensures) ∙ c .before .before .before .if1 .left,
-      sym (c .before .is-terminate .ensures) ∙ c .if2 .taken,
+      sym (ends (c .before)) ∙ c .if2 .taken,
     )))
     ∙ c .before .before .before .before .before .before .loop .inv
 
@@ -53,7 +65,7 @@ loop-again c =
     sym (quote-at _ _ (c .before .before .before .before .before .before .loop .at) _ (omega arith)
     ∙ (rw (
       sym (c .before .before .before .before .quote-closes .ensures) ∙ c .before .before .before .if1 .left,
-      sym (c .before .is-terminate .ensures) ∙ c .if2 .left,
+      sym (ends (c .before)) ∙ c .if2 .left,
     )))
     ∙ c .before .before .before .before .before .before .loop .inv
 

@@ -1,6 +1,8 @@
 -- `white_at` meets its contract: the end counts as white space.
 use mathlib.Core.Path.{sym, _∙_}
+use native.Mathlib.Omega.{arith}
 use borrow.Author.Needs.{needs}
+use Rattle.star_text.proofs.Classes.{white-is}
 use Rattle.star_lex.proofs.Closing.{white-in, white-end}
 use Rattle.star_lex.proofs.scan.white_at.Statement.{statement}
 use Rattle.star_lex.proofs.scan.white_at.Tie as tie
@@ -12,7 +14,10 @@ is-white-requires : tie.Need-is-white-requires
 is-white-requires c κs = search needs
 
 returns : tie.Need-returns
-returns c = c .is-white .ensures ∙ sym (white-in _ _ (c .before .before .if1 .taken))
+returns c =
+    c .is-white .ensures
+    ∙ white-is (c .before .before .before .before .pre) _ (omega (arith, c .before .shared-slice-known2 .given (c .before .before .before .before .args .at)))
+    ∙ sym (white-in _ _ (c .before .before .if1 .taken))
 
 returns-2 : tie.Need-returns-2
 returns-2 c = sym (white-end _ _ (c .if1 .left))

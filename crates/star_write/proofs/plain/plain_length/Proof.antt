@@ -34,7 +34,7 @@ shared-slice-read-kind : tie.Need-shared-slice-read-kind Inv-loop μ-loop
 shared-slice-read-kind c = omega arith
 
 content-requires : tie.Need-content-requires Inv-loop μ-loop
-content-requires c κs = (c .before .before .before .before .before .pre, omega arith)
+content-requires c κs = tt
 
 token-length-requires : tie.Need-token-length-requires Inv-loop μ-loop
 token-length-requires c κs = tt

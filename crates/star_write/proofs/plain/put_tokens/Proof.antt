@@ -35,7 +35,7 @@ shared-slice-read-kind : tie.Need-shared-slice-read-kind Inv-loop μ-loop
 shared-slice-read-kind c = omega arith
 
 content-requires : tie.Need-content-requires Inv-loop μ-loop
-content-requires c κs = (c .before .before .before .before .before .before .pre .0, omega arith)
+content-requires c κs = tt
 
 -- the turn's token
 turn : (c : tie.After-content Inv-loop μ-loop)
