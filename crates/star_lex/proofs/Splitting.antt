@@ -103,17 +103,20 @@ quoted-within q kind bs (some c) w k e =
     let n : length bs ≡ length c + suc (length rest) = simp length-append at (ap length s) in
     (omega arith, omega arith)
 
-word-within : (b : ℕ) (bs : List ℕ) → Within (length bs) (wordFrom b bs)
-unfolding wordFrom
-word-within b bs = go (wordLexeme (length w) (b ∷ w)) (word-shaped (length w) (b ∷ w)) (run-length (λ c. not (isWhite c)) bs)
+run-within : (p : ℕ → Bool) (b : ℕ) (bs : List ℕ) → Within (length bs) (wordLexeme (length (run p bs)) (b ∷ run p bs))
+run-within p b bs = go (wordLexeme (length w) (b ∷ w)) (word-shaped (length w) (b ∷ w)) (run-length p bs)
   where
     w : List ℕ
-    w = run (λ c. not (isWhite c)) bs
+    w = run p bs
 
     go : (l : Lexeme) → Shaped (length w) (suc (length w)) l → length w ≤ length bs → Within (length bs) l
     go (gap m) h k = absurd h
     go (token m t) h k = (omega arith, omega arith)
     go (faulty n) h k = h
+
+word-within : (b : ℕ) (bs : List ℕ) → Within (length bs) (wordFrom b bs)
+unfolding wordFrom
+word-within b bs = run-within _ b bs
 
 pub lexeme-within : (line : Bool) (b : ℕ) (bs : List ℕ) → Within (length bs) (lexeme line b bs)
 unfolding lexeme opening isWhite isBlank isTerminate
