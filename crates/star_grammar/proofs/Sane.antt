@@ -7,7 +7,7 @@ use native.Mathlib.Omega.{arith}
 use lib.Dec.{eqb, ltb}
 use lib.ListN.{length, length-reverseAux}
 use borrow.Author.Tests.{ltb-true}
-use Rattle.star_grammar.specs.Tables.{Rows}
+use Rattle.star_grammar.specs.Tables.{Rows, pass}
 use Rattle.star_grammar.specs.Machine.{Sort, Where, inBlock, inFrame, Level, State, start, within, named, header, body, Step, go, refuse, between, filled, fill, valueAt, begin, headerStep, noValue, noValueAt, bodyStep, startStep, namedStep, step}
 use Rattle.star_grammar.specs.Rest.{SaneHeader, SaneBody, Sane}
 use Rattle.star_grammar.proofs.Counts.{Counts}
@@ -82,10 +82,10 @@ module _ (limit : ℕ) (least : 1 ≤ limit) where
   header-sane w first before n s Sort.frameEnd r h = tt
   header-sane w first before n s Sort.loop r h =
       taken-cond (Sane limit) (ltb 0 n && eqb s 0) _ _
-      (λ e. taken-cond (Sane limit) (ltb (suc (length before)) limit) _ _
+      (λ e. taken-cond (Sane limit) _ (go (header w first (n ∷ before) 0 0) (pass r)) _
       (λ e′. record {
         some-names = (ltb-true 0 n (both-left (ltb 0 n) (eqb s 0) e), h .some-names);
-        levels = ltb-true (suc (length before)) limit e′;
+        levels = ltb-true _ limit e′;
         stops-fit = omega arith;
         stopped = omega arith;
       })
