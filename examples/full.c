@@ -1,5 +1,5 @@
 /*
- * Reads the full case of paper 01 through star.h and prints what came of it:
+ * Reads the full case, specification 15.1, through star.h and prints what came of it:
  * the counts, the five tables, each value of each name, and the plain form.
  */
 #include <stdio.h>

@@ -1,7 +1,7 @@
 //! The STAR File reader for Rust callers, and what tests it.
 //!
 //! [`star`] holds safe wrappers around the C interface of [`raw`]. [`reference`]
-//! is a plain reader of its own, written from paper 01 alone; [`generate`] makes
+//! is a plain reader of its own, written from the rules alone; [`generate`] makes
 //! files and tables to compare the two on, and [`notation`] prints them.
 
 #![deny(unsafe_code)]

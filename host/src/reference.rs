@@ -1,8 +1,8 @@
-//! A plain reader of STAR Files, written from paper 01 alone.
+//! A plain reader of STAR Files, written from the specification alone.
 //!
 //! It shares no code with the library, takes its time and its memory as it
 //! likes, and answers for every call every field and every word that the
-//! library is to answer. Where paper 01 leaves room it follows the choices in
+//! library is to answer. Where the rules leave room it follows the choices in
 //! docs/DECISIONS.md; each is marked `choice` here.
 
 use std::collections::HashSet;
@@ -639,7 +639,7 @@ mod tests {
         }
     }
 
-    /// Known files of paper 01, `/` for byte 10, with the refusal and place.
+    /// Known files of specification 15.2, `/` for byte 10, with the refusal and place.
     #[test]
     fn known_files_are_refused() {
         let known = [

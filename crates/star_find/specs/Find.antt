@@ -1,4 +1,4 @@
--- Lookup in tables that are not trusted: paper 01, "Finding".
+-- Lookup in tables that are not trusted: specification 10 and 11.
 use mathlib.Core.Bool.{Bool, true, false, cond, not, _&&_, _||_}
 use mathlib.Core.List.{List, []}
 use mathlib.Core.Option.{Option, none, some}

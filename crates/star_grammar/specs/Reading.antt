@@ -1,4 +1,4 @@
--- The reading of a row of tokens: paper 01, "Grammar over tokens".
+-- The reading of a row of tokens: specification 5 and 6.
 use mathlib.Core.Path.{_≡_}
 use mathlib.Core.List.{List, [], _∷_, _++_, map, flatMap, List·Memᴰ}
 use Prim.Native.Nat.{ℕ}

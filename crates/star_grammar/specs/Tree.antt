@@ -1,4 +1,4 @@
--- The grammar of paper 01, "Grammar over tokens", as trees and the tokens that they yield. No parser stands here.
+-- The grammar, specification 4, as trees and the tokens that they yield. No parser stands here.
 use mathlib.Core.Path.{_≡_}
 use mathlib.Core.List.{List, [], _∷_, _++_, map, flatMap}
 use Prim.Native.Nat.{ℕ, _≤_, _<_}
@@ -60,7 +60,7 @@ loopYield l =
     (loopStart ∷ l .names) ++ (flatMap (λ ns. loopStart ∷ ns) (l .deeper) ++ (replicate (l .stops) stop
     ++ flatMap (packetYield (map length (l .deeper))) (l .packets)))
 
--- at most so many levels (paper 01: 8), one name or more at each, at most one header stop for each inner level, one packet or more at level 1
+-- at most so many levels (8 by specification 4.13), one name or more at each, at most one header stop for each inner level, one packet or more at level 1
 pub record LoopWhole (limit : ℕ) (l : Loop) : Type 0 where
   pub some-name : 1 ≤ length (l .names)
   pub some-names : Each (λ ns. 1 ≤ length ns) (l .deeper)

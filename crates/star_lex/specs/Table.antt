@@ -1,4 +1,4 @@
--- What table 1 says of a file: paper 01, "The five tables".
+-- What table 1 says of a file: specification 7.2.
 use mathlib.Core.Bool.{cond, _&&_}
 use mathlib.Core.List.{List, []}
 use Prim.Native.Nat.{ℕ, _+_, _-_, _*_}

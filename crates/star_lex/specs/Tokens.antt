@@ -1,4 +1,4 @@
--- Tokens: paper 01, "Bytes and tokens" and "The five tables".
+-- Tokens: specification 3.7, 3.13 and 7.2.
 use mathlib.Core.Bool.{cond}
 use mathlib.Core.List.{List, [], _∷_}
 use Prim.Native.Nat.{ℕ, _+_}

@@ -7,18 +7,18 @@ use lib.ListN.{length}
 use Rattle.star_rows.specs.Rows.{holding}
 use Rattle.star_rows.proofs.Held.{length-holding}
 use Rattle.star_lex.specs.Tokens.{Placed, tokenRow}
-use Rattle.star_lex.specs.Split.{Split}
+use Rattle.star_lex.specs.Split.{Split, placed}
 use Rattle.star_lex.specs.Split as Split
 use Rattle.star_lex.specs.Found.{tokensIn, tableOf}
 use Rattle.star_lex.proofs.Splitting.{row-wide}
 use Rattle.star_lex.proofs.Answers.{tokens-accepted, in-number, in-fits}
 use Rattle.star_grammar.specs.Tables.{Rows, noRows}
 use Rattle.star_grammar.specs.Machine.{run, start}
-use Rattle.star_unique.specs.Holds.{Holds}
+use Rattle.star_unique.specs.Holds.{Holds, fileTokens}
 use Rattle.star_unique.specs.Repeat.{nothing, firstRepeat}
 use Rattle.star_unique.proofs.Comparing.{table-holds}
 use Rattle.star_read.specs.Read.{Outcome, refused, accepted, Sizes, tokensOnly, grammarOf, after, readOf}
-use Rattle.star_read.specs.Answer.{answerOf, judgedOf}
+use Rattle.star_read.specs.Answer.{answerOf, Tables, tablesOf, Leaves, judgedOf}
 use Rattle.star_read.specs.declared.Reading.{Reading}
 use Rattle.star_read.proofs.Demand3.{rows-of-reading}
 use Rattle.star_read.proofs.Fitting.{refused≢accepted}
@@ -69,3 +69,22 @@ module _ (file : List ℕ) (w : Sizes) (ps : List Placed) (rows : Rows) (e : rea
       table-holds file (w .tokens) ps table-tokens _ (length ps) refl
       (length-holding 3 tokenRow row-wide (omega arith) ps (w .tokens) (in-fits file (w .tokens) ps table-tokens .1))
       (sym (ap (λ s. tableOf s (w .tokens)) table-tokens))
+
+  -- its tokens are the file's
+  pub tokens-file : tokensOnly ps ≡ fileTokens file
+  unfolding placed
+  tokens-file = ap (λ s. tokensOnly (placed s)) (sym (rows-of-reading file w ps rows e .0))
+
+  -- table 1 as reading has left it holds the tokens
+  pub left-holds : (t : Tables) (count : ℕ) → Leaves (readOf file w) w t → count ≡ length ps → Holds file (t .tokens) count
+  unfolding tablesOf
+  left-holds t count l c =
+      let table : t .tokens ≡ holding tokenRow ps (w .tokens) = l .tokens ∙ ap (λ o. tablesOf o w .tokens) e in
+      rw (table, c) accepted-holds
+
+pub read-holds : (file : List ℕ) (w : Sizes) (r : Reading) → r ≡ answerOf (readOf file w) → (t : Tables) → Leaves (readOf file w) w t → r .refusal ≡ 0
+    → Holds file (t .tokens) (r .tokens)
+unfolding answerOf
+read-holds file w r e t l z =
+    let a = answer-accepted file w r e z in
+    left-holds file w (a .0) (a .1) (a .2) t (r .tokens) l (ap (λ s. s .tokens) (e ∙ ap answerOf (a .2)))

@@ -12,10 +12,11 @@ use Rattle.star_lex.proofs.Answers.{tokens-faulty}
 use Rattle.star_lex.proofs.Cases.{impossible}
 use Rattle.star_lex.proofs.Each.{each-append}
 use Rattle.star_lex.proofs.Parts.{PartOf, split-parts}
-use Rattle.star_grammar.specs.Tables.{Rows}
-use Rattle.star_read.specs.Read.{Outcome, refused, accepted, Sizes, readOf}
+use Rattle.star_grammar.specs.Tables.{Rows, rowsOf}
+use Rattle.star_grammar.specs.Reading.{Reading}
+use Rattle.star_read.specs.Read.{Outcome, refused, accepted, Sizes, tokensOnly, readOf}
 use Rattle.star_read.specs.Answer.{answerOf, tablesOf}
-use Rattle.star_read.specs.Demands.{NumberAt, NumberAtEnd, Bad, Short, Settles, Numbered, HasReading, ReadAnswer, ReadAnswers}
+use Rattle.star_read.specs.Demands.{Room, Tokenized, NumberAt, NumberAtEnd, Bad, Short, Settles, Numbered, HasReading, ReadAnswer, ReadAnswers}
 use Rattle.star_read.proofs.Settled.{reading-settled}
 
 token-number : {p : List Token} {t : Token} {n : ℕ} → NumberAt p t n → (8 ≤ n) × (n ≤ 12)
@@ -63,17 +64,26 @@ module _ (file : List ℕ) (words : Sizes) where
       by _ (Settles.no-room ps table f r h) d = let k : (1 ≤ table) × (table ≤ 5) = table-number h in same (Numbered.table table (k .0) (k .1)) d
       by _ (Settles.reads ps f r h) d = impossible cc
 
-  -- what is accepted has a reading
-  pub accepted-has : (ps : List Placed) (rows : Rows) → readOf file words ≡ accepted ps rows → HasReading file
-  accepted-has ps rows = by (readOf file words) (reading-settled file words)
+  -- what is accepted has a reading, and room for its rows
+  pub accepted-room : (ps : List Placed) (rows : Rows) → readOf file words ≡ accepted ps rows
+      → Tokenized file words ps × Reading (tokensOnly ps) × Room words rows
+  accepted-room ps rows = by (readOf file words) (reading-settled file words)
     where
-      by : (o : Outcome) → Settles file words o → o ≡ accepted ps rows → HasReading file
+      by : (o : Outcome) → Settles file words o → o ≡ accepted ps rows → Tokenized file words ps × Reading (tokensOnly ps) × Room words rows
       by _ (Settles.over-size h) d = impossible cc
       by _ (Settles.unsplit m i small e) d = impossible cc
       by _ (Settles.no-token-room qs small e h) d = impossible cc
       by _ (Settles.no-reading qs m i f none b) d = impossible cc
       by _ (Settles.no-room qs table f r h) d = impossible cc
-      by _ (Settles.reads qs f r h) d = record { small = f .small; tokens = qs; splits = f .splits; reading = r }
+      by _ (Settles.reads qs f r h) d =
+          let same : qs ≡ ps = cc in
+          let is : rowsOf (r .tree) ≡ rows = cc in
+          (rw (← same) f, rw (← same) r, rw (← is) h)
+
+  pub accepted-has : (ps : List Placed) (rows : Rows) → readOf file words ≡ accepted ps rows → HasReading file
+  accepted-has ps rows e =
+      let k : Tokenized file words ps × Reading (tokensOnly ps) × Room words rows = accepted-room ps rows e in
+      record { small = k .0 .small; tokens = ps; splits = k .0 .splits; reading = k .1 }
 
 pub read-answers : ReadAnswers
 unfolding answerOf tablesOf

@@ -5,14 +5,12 @@ use mathlib.Core.Bool.{Bool, true, false, cond}
 use mathlib.Core.List.{List}
 use Prim.Native.Nat.{ℕ, _*_}
 use borrow.Author.Tests.{le-leb, le-ltb}
-use lib.Dec.{leb, ltb}
+use lib.Dec.{ltb}
 use lib.ListN.{length}
 use Rattle.star_lex.specs.Tokens.{Placed}
-use Rattle.star_lex.specs.Split.{Split, tokensOf}
-use Rattle.star_lex.specs.Split as Split
 use Rattle.star_lex.specs.Found.{tokensIn}
 use Rattle.star_lex.specs.Found as Found
-use Rattle.star_lex.proofs.Cases.{impossible, cond-cases}
+use Rattle.star_lex.proofs.Cases.{impossible}
 use Rattle.star_grammar.specs.Tables.{Rows}
 use Rattle.star_read.specs.Read.{Outcome, refused, accepted, Sizes, grammarOf, fitting, after, readOf}
 use Rattle.star_read.specs.Demands.{Room, Tokenized}

@@ -1,4 +1,4 @@
--- The cases that paper 01 marks to be proved hold by computing the definitions.
+-- The cases that specification 15 marks to be proved hold by computing the definitions.
 use mathlib.Core.Path.{refl}
 use mathlib.Core.List.{flatMap}
 use Rattle.star_text.specs.Bytes.{isBlank, isTerminate, isWhite, isPrintable, isAllowed, run, firstRefused}

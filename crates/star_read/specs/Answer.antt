@@ -1,4 +1,4 @@
--- What reading answers and leaves in the lent tables: paper 01, "The five tables".
+-- What reading answers and leaves in the lent tables: specification 9.
 use mathlib.Core.Path.{_≡_}
 use mathlib.Core.Bool.{cond}
 use mathlib.Core.List.{List}

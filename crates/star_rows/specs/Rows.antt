@@ -1,4 +1,4 @@
--- Rows of words in a table: paper 01, "The five tables".
+-- Rows of words in a table: specification 7.1 and 9.2.
 use mathlib.Core.Bool.{cond}
 use mathlib.Core.List.{List, _++_, flatMap}
 use Prim.Native.Nat.{ℕ, _+_, _-_, _*_, _/_}

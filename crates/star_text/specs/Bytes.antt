@@ -1,4 +1,4 @@
--- The bytes of a file: paper 01, "Bytes and tokens".
+-- The bytes of a file: specification 2.
 use mathlib.Core.Path.{_≡_}
 use mathlib.Core.Bool.{Bool, true, cond, _&&_, _||_}
 use mathlib.Core.List.{List, [], _∷_}

@@ -1,4 +1,4 @@
--- Table 1 with the tokens of a file: paper 01, "The five tables".
+-- Table 1 with the tokens of a file: specification 7.2.
 use mathlib.Core.Path.{_≡_}
 use mathlib.Core.List.{List, [], map}
 use Prim.Native.Nat.{ℕ, _*_, _≤_}

@@ -1,5 +1,5 @@
--- The first name or code of a row of tokens that is already taken: paper 01, "Names are unique within a block, its frames not counted, and
--- within a frame. Frame codes are unique within a block, block codes within the file."
+-- The first name or code of a row of tokens that is already taken (specification 5): names are unique within a block, its frames not counted, and
+-- within a frame; frame codes are unique within a block, block codes within the file.
 use mathlib.Core.Bool.{Bool, true, false, cond, _&&_, _||_}
 use mathlib.Core.List.{List, [], _∷_, _++_}
 use Prim.Native.Nat.{ℕ, suc}

@@ -1,14 +1,12 @@
 -- Demand 1, of the writer: it refuses with reading's numbers, with 1 or with 7 at 6, and then leaves nothing; 0 has a reading.
-use mathlib.Core.Path.{_≡_, refl, ap, _∙_, subst}
+use mathlib.Core.Path.{_≡_, refl}
 use mathlib.Core.List.{List}
-use Prim.Native.Nat.{ℕ, _-_}
+use Prim.Native.Nat.{ℕ}
 use native.Mathlib.Nat.{sub-zero}
 use lib.Dec.{leb}
-use lib.ListN.{length, replicate}
-use Rattle.star_lex.specs.Tokens.{Placed}
+use lib.ListN.{length}
 use Rattle.star_lex.specs.Plain.{plainOf}
 use Rattle.star_lex.proofs.Cases.{impossible, cond-cases}
-use Rattle.star_grammar.specs.Tables.{Rows}
 use Rattle.star_read.specs.Read.{Outcome, Sizes, tokensOnly, readOf}
 use Rattle.star_read.specs.Read as Read
 use Rattle.star_read.specs.Answer as Answer

@@ -8,20 +8,17 @@ use native.Mathlib.Omega.{arith}
 use borrow.Author.Tests.{leb-true, le-leb, lt-leb}
 use lib.Dec.{leb}
 use lib.ListN.{length, replicate}
-use Rattle.star_rows.specs.Rows.{holding}
-use Rattle.star_lex.specs.Tokens.{Placed, tokenRow}
-use Rattle.star_lex.specs.Split.{placed}
+use Rattle.star_lex.specs.Tokens.{Placed}
 use Rattle.star_lex.specs.Plain.{plainOf}
 use Rattle.star_lex.proofs.Cases.{impossible, cond-cases}
 use Rattle.star_grammar.specs.Tables.{Rows}
-use Rattle.star_unique.specs.Holds.{Holds, fileTokens}
+use Rattle.star_unique.specs.Holds.{fileTokens}
 use Rattle.star_read.specs.Read.{Outcome, Sizes, tokensOnly, readOf}
 use Rattle.star_read.specs.Read as Read
-use Rattle.star_read.specs.Answer.{Tables, tablesOf, Leaves}
+use Rattle.star_read.specs.Answer.{Tables, Leaves}
 use Rattle.star_read.specs.Answer as Answer
 use Rattle.star_read.specs.declared.Reading.{Reading}
-use Rattle.star_read.proofs.Demand3.{rows-of-reading}
-use Rattle.star_read.proofs.Accepted.{read-number, answer-refused, answer-accepted, accepted-holds}
+use Rattle.star_read.proofs.Accepted.{read-number, answer-refused, answer-accepted, tokens-file}
 use Rattle.star_write.specs.Write.{Writing, refused, written, fitting, after, writeOf}
 use Rattle.star_write.specs.Answer.{readingOf, bytesOf, outputOf, answerOf}
 use Rattle.star_write.specs.declared.Written.{Written}
@@ -57,16 +54,7 @@ wrote file words room ps rows plain e = go (readOf file words) refl e
 -- the plain form of an accepted file is that of its tokens
 plain-file : (file : List ℕ) (words : Sizes) (ps : List Placed) (rows : Rows) → readOf file words ≡ Read.accepted ps rows
     → plainOf (tokensOnly ps) ≡ plainOf (fileTokens file)
-unfolding placed
-plain-file file words ps rows e = ap (λ s. plainOf (tokensOnly (placed s))) (sym (rows-of-reading file words ps rows e .0))
-
--- table 1 as reading has left it holds the tokens
-pub left-holds : (file : List ℕ) (words : Sizes) (ps : List Placed) (rows : Rows) (t : Tables) (count : ℕ)
-    → readOf file words ≡ Read.accepted ps rows → Leaves (readOf file words) words t → count ≡ length ps → Holds file (t .tokens) count
-unfolding tablesOf
-left-holds file words ps rows t count e l c =
-    let table : t .tokens ≡ holding tokenRow ps (words .tokens) = l .tokens ∙ ap (λ o. tablesOf o words .tokens) e in
-    rw (table, c) (accepted-holds file words ps rows e)
+plain-file file words ps rows e = ap plainOf (tokens-file file words ps rows e)
 
 -- the answer of a written file by reading's counts and the size
 abbrev pub counted : ℕ → Reading → Written
@@ -86,12 +74,6 @@ module _ (file : List ℕ) (words : Sizes) (r : Reading) (e : r ≡ Answer.answe
   pub refuses-reading : (room : ℕ) → (r .refusal ≡ 0 → ⊥) → writeOf file words room ≡ refused (r .refusal) (r .place)
   unfolding writeOf after
   refuses-reading room f = rw (answer-refused (readOf file words) r e f)
-
-  pub read-holds : (t : Tables) → Leaves (readOf file words) words t → r .refusal ≡ 0 → Holds file (t .tokens) (r .tokens)
-  unfolding Answer.answerOf
-  read-holds t l z =
-      let a = answer-accepted file words r e z in
-      left-holds file words (a .0) (a .1) t (r .tokens) (a .2) l (ap (λ s. s .tokens) (e ∙ ap Answer.answerOf (a .2)))
 
   module _ (room : ℕ) (z : r .refusal ≡ 0) where
     accepts : (ps : List Placed) × (rows : Rows) × (readOf file words ≡ Read.accepted ps rows)

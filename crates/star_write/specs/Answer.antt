@@ -1,4 +1,4 @@
--- What writing answers, and what it leaves in the lent tables and the output: paper 01, "Plain form".
+-- What writing answers, and what it leaves in the lent tables and the output: specification 12.6 and 12.7.
 use mathlib.Core.List.{List, [], _++_}
 use Prim.Native.Nat.{ℕ, _-_}
 use lib.ListN.{length, replicate}

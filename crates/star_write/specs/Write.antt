@@ -1,4 +1,4 @@
--- What writing gives: paper 01, "Plain form".
+-- What writing gives: specification 12.4.
 use mathlib.Core.Bool.{cond}
 use mathlib.Core.List.{List}
 use Prim.Native.Nat.{ℕ}

@@ -7,7 +7,8 @@ use Rattle.star_read.specs.Read.{Sizes}
 use Rattle.star_read.specs.Answer.{tables, sizes, tablesOf}
 use Rattle.star_write.specs.Write.{Writing, refused, writeOf}
 use Rattle.star_write.specs.Answer.{answerOf}
-use Rattle.star_write.proofs.Outcomes.{read-holds, left-holds, writing-refused, Success, success, zeros, refused-tables, refused-output, written-tables, written-output}
+use Rattle.star_read.proofs.Accepted.{read-holds, left-holds}
+use Rattle.star_write.proofs.Outcomes.{writing-refused, Success, success, zeros, refused-tables, refused-output, written-tables, written-output}
 use Rattle.star_write.proofs.write.Statement.{statement}
 use Rattle.star_write.proofs.write.Tie as tie
 
@@ -109,7 +110,7 @@ cast-put-plain-2 c = search needs
 put-plain-requires : tie.Need-put-plain-requires
 put-plain-requires c κs =
     let w = writes (writing c) in
-    (left-holds _ _ (w .ps) (w .rows) _ _ (w .reads) (read (writing c .before .before) .read .ensures .1) (w .count), (w .size, w .fits))
+    (left-holds _ _ (w .ps) (w .rows) (w .reads) _ _ (read (writing c .before .before) .read .ensures .1) (w .count), (w .size, w .fits))
 
 same-length-7 : tie.Need-same-length-7
 same-length-7 c = read (writing (put c .before) .before .before) .read .kept .1 .0
