@@ -5,18 +5,26 @@
 #include <stdio.h>
 #include <string.h>
 
-#include "../include/star.h"
+#include "star.h"
 
 static const char file[] = "data_a\nloop_\n_x\nloop_\n_y\n1 2 3 stop_ 4 stop_\n";
 
-/* The tables, with room to spare and filled by the reading. */
-static uint32_t tokens[64], sets[64], names[64], packets[64], values[64];
+/* The bytes of the file, without the 0 that ends the string. */
+#define BYTES (sizeof(file) - 1)
 
-#define LENGTH(array) (sizeof(array) / sizeof((array)[0]))
-#define FILE_RANGE (const uint8_t *)file, sizeof(file) - 1
+/* The tables, with room for any file of so many bytes, and the plain form. */
+static uint32_t tokens[STAR_TOKENS_WORDS(BYTES)];
+static uint32_t sets[STAR_SETS_WORDS(BYTES)];
+static uint32_t names[STAR_NAMES_WORDS(BYTES)];
+static uint32_t packets[STAR_PACKETS_WORDS(BYTES)];
+static uint32_t values[STAR_VALUES_WORDS(BYTES)];
+static uint8_t plain[STAR_PLAIN_BYTES(BYTES)];
+
+#define FILE_RANGE (const uint8_t *)file, BYTES
 #define TABLES                                                                \
-    tokens, LENGTH(tokens), sets, LENGTH(sets), names, LENGTH(names),         \
-        packets, LENGTH(packets), values, LENGTH(values)
+    tokens, STAR_TOKENS_WORDS(BYTES), sets, STAR_SETS_WORDS(BYTES),           \
+        names, STAR_NAMES_WORDS(BYTES), packets, STAR_PACKETS_WORDS(BYTES),   \
+        values, STAR_VALUES_WORDS(BYTES)
 
 static void print_table(const char *name, const uint32_t *words, uint32_t rows, uint32_t width)
 {
@@ -38,7 +46,7 @@ static void print_values(star_counts counts, uint32_t block, const char *name)
     printf("%s is name row %u:", name, (unsigned)found.row);
     for (uint32_t k = 1;; k++) {
         star_value value = star_value_at(FILE_RANGE, TABLES, counts, found.row, k);
-        if (value.refusal != 0) {
+        if (value.refusal != STAR_OK) {
             printf(" then refusal %u\n", (unsigned)value.refusal);
             return;
         }
@@ -52,16 +60,17 @@ int main(void)
 {
     star_reading reading = star_read(FILE_RANGE, TABLES);
     printf("refusal %u, place %u\n", (unsigned)reading.refusal, (unsigned)reading.place);
+    if (reading.refusal != STAR_OK)
+        return 1;
     printf("counts: %u %u %u %u %u\n", (unsigned)reading.tokens, (unsigned)reading.sets,
            (unsigned)reading.names, (unsigned)reading.packets, (unsigned)reading.values);
-    print_table("tokens", tokens, reading.tokens, 3);
-    print_table("sets", sets, reading.sets, 3);
-    print_table("names", names, reading.names, 4);
-    print_table("packets", packets, reading.packets, 3);
-    print_table("values", values, reading.values, 3);
+    print_table("tokens", tokens, reading.tokens, STAR_TOKENS_WIDTH);
+    print_table("sets", sets, reading.sets, STAR_SETS_WIDTH);
+    print_table("names", names, reading.names, STAR_NAMES_WIDTH);
+    print_table("packets", packets, reading.packets, STAR_PACKETS_WIDTH);
+    print_table("values", values, reading.values, STAR_VALUES_WIDTH);
 
-    star_counts counts = {reading.tokens, reading.sets, reading.names, reading.packets,
-                          reading.values};
+    star_counts counts = star_counts_of(reading);
     star_found block = star_find_block(FILE_RANGE, TABLES, counts, (const uint8_t *)"a", 1);
     printf("block a is set %u\n", (unsigned)block.row);
     star_found frame = star_find_frame(FILE_RANGE, TABLES, counts, block.row,
@@ -70,8 +79,7 @@ int main(void)
     print_values(counts, block.row, "_x");
     print_values(counts, block.row, "_y");
 
-    uint8_t plain[128];
-    star_written written = star_write(FILE_RANGE, TABLES, plain, sizeof plain);
+    star_written written = star_write(FILE_RANGE, TABLES, plain, sizeof(plain));
     printf("plain form, %u bytes:\n", (unsigned)written.length);
     fwrite(plain, 1, written.length, stdout);
     return 0;

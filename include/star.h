@@ -17,28 +17,30 @@
  *
  * Kinds of tokens: 1 data_ and a code, 2 save_ and a code, 3 save_ alone,
  * 4 loop_, 5 stop_, 6 name, 7 word, 8 $ and a frame code, 9 single-quoted
- * string, 10 double-quoted string, 11 text field. Values are 7 to 11. The
- * content of a token is the code for kinds 1, 2 and 8, what stands between
- * the delimiters for kinds 9 to 11, else the whole word.
+ * string, 10 double-quoted string, 11 text field, 12 global_, which is refused
+ * and so in no table. Values are 7 to 11. The content of a token is the code
+ * for kinds 1, 2 and 8, what stands between the delimiters for kinds 9 to 11,
+ * else the whole word.
  *
- * REFUSALS. Every answer but star_part has a refusal; 0 means accepted or
- * found. A place is an offset into the file unless said otherwise.
+ * REFUSALS. Every answer but star_part has a refusal; 0, STAR_OK, means
+ * accepted or found. A place is an offset into the file unless said otherwise.
  *
- *   no.  given when                                             place
- *   1    file (or plain form) over 1,048,576 bytes              0
- *   2    a byte not allowed (allowed: 9 to 13, 32 to 126)       the first such byte
- *   3    ill-formed word                                        its first byte
- *   4    name or code over 32 bytes                             its token's first byte
- *   5    quote not closed on its line                           the quote
- *   6    text field not closed, or byte after its closing ;     the opening ;
- *   7    table (or output) too short                            the table's number, 6 for the output
- *   8    token or end out of place                              its first byte, or the file's length
- *   9    name or code already taken                             first byte
- *   10   packet not full, or inner level not closed             first byte, or the file's length
- *   11   loop_ that opens level 9                               first byte
- *   12   global_                                                first byte
- *   13   not found                                              0
- *   14   a number or row that points outside                    0
+ *   no.  constant         given when                                        place
+ *   1    STAR_TOO_LARGE   file (or plain form) over 1,048,576 bytes         0
+ *   2    STAR_BAD_BYTE    a byte not allowed (allowed: 9 to 13, 32 to 126)  the first such byte
+ *   3    STAR_BAD_WORD    ill-formed word                                   its first byte
+ *   4    STAR_TOO_LONG    name or code over 32 bytes                        its token's first byte
+ *   5    STAR_OPEN_QUOTE  quote not closed on its line                      the quote
+ *   6    STAR_OPEN_TEXT   text field not closed, or byte after its          the opening ;
+ *                         closing ;
+ *   7    STAR_TOO_SHORT   table (or output) too short                       the table's number, 6 for the output
+ *   8    STAR_MISPLACED   token or end out of place                         its first byte, or the file's length
+ *   9    STAR_TAKEN       name or code already taken                        first byte
+ *   10   STAR_INCOMPLETE  packet not full, or inner level not closed        first byte, or the file's length
+ *   11   STAR_TOO_DEEP    loop_ that opens level 9                          first byte
+ *   12   STAR_GLOBAL      global_                                           first byte
+ *   13   STAR_NOT_FOUND   not found                                         0
+ *   14   STAR_OUTSIDE     a number or row that points outside               0
  *
  * Order of checking: 1; 2 over the whole file; the first token faulty by 3
  * to 6; 7 for table 1; the first token that breaks the grammar, 8 to 12;
@@ -62,6 +64,103 @@
 #ifdef __cplusplus
 extern "C" {
 #endif
+
+/* The refusals, as the table above has them. */
+enum star_refusal {
+    STAR_OK = 0,
+    STAR_TOO_LARGE = 1,
+    STAR_BAD_BYTE = 2,
+    STAR_BAD_WORD = 3,
+    STAR_TOO_LONG = 4,
+    STAR_OPEN_QUOTE = 5,
+    STAR_OPEN_TEXT = 6,
+    STAR_TOO_SHORT = 7,
+    STAR_MISPLACED = 8,
+    STAR_TAKEN = 9,
+    STAR_INCOMPLETE = 10,
+    STAR_TOO_DEEP = 11,
+    STAR_GLOBAL = 12,
+    STAR_NOT_FOUND = 13,
+    STAR_OUTSIDE = 14
+};
+
+/* The kinds of tokens. */
+enum star_token_kind {
+    STAR_TOKEN_BLOCK = 1,         /* data_ and a code */
+    STAR_TOKEN_FRAME = 2,         /* save_ and a code */
+    STAR_TOKEN_FRAME_END = 3,     /* save_ alone */
+    STAR_TOKEN_LOOP = 4,          /* loop_ */
+    STAR_TOKEN_STOP = 5,          /* stop_ */
+    STAR_TOKEN_NAME = 6,
+    STAR_TOKEN_WORD = 7,
+    STAR_TOKEN_REFERENCE = 8,     /* $ and a frame code */
+    STAR_TOKEN_SINGLE_QUOTED = 9,
+    STAR_TOKEN_DOUBLE_QUOTED = 10,
+    STAR_TOKEN_TEXT = 11,         /* text field */
+    STAR_TOKEN_GLOBAL = 12        /* global_ */
+};
+
+/* The kinds of sets. */
+enum star_set_kind {
+    STAR_SET_BLOCK = 1,
+    STAR_SET_FRAME = 2
+};
+
+/* The words of a row in each table. */
+#define STAR_TOKENS_WIDTH 3
+#define STAR_SETS_WIDTH 3
+#define STAR_NAMES_WIDTH 4
+#define STAR_PACKETS_WIDTH 3
+#define STAR_VALUES_WIDTH 3
+
+/* The most bytes of a file and of a plain form. */
+#define STAR_MOST_BYTES 1048576
+/* The most bytes of a name, its underscore included, and of a block or frame code. */
+#define STAR_MOST_NAME_BYTES 32
+/* The most levels of a loop. */
+#define STAR_MOST_LEVELS 8
+
+/*
+ * ROOM FOR A FILE OF n BYTES. With STAR_TOKENS_WORDS(n) to STAR_VALUES_WORDS(n)
+ * words lent, no table is too short for any file of n bytes, accepted or not,
+ * and with STAR_PLAIN_BYTES(n) bytes no output is: refusal 7 is not answered.
+ *
+ * Each is a constant expression where n is one, may evaluate n more than once,
+ * and is never 0: C has no arrays without elements, and malloc may answer a
+ * null pointer for 0 bytes. For n over STAR_MOST_BYTES they give what they give
+ * for STAR_MOST_BYTES, since such a file is refused by 1 whatever is lent; so
+ * no step overflows, for any n that is not negative.
+ *
+ * The reason for the rows: white space or the end directly follows each token,
+ * so k tokens of b bytes or more each take k * b bytes and k - 1 between them:
+ * k * (b + 1) <= n + 1, and therefore k <= n / (b + 1) + 1. For tokens that is
+ * proved; the others are reasons and tests, not theorems.
+ */
+#define STAR_READ_BYTES_(n) ((n) < STAR_MOST_BYTES ? (n) : STAR_MOST_BYTES)
+
+/* A token has 1 byte or more: tokens * 2 <= n + 1 is theorem tokens-bound of star_lex. */
+#define STAR_MOST_TOKENS(n) (STAR_READ_BYTES_(n) / 2 + 1)
+/* Each set has a heading of its own, data_ or save_ and a code: 6 bytes or more. */
+#define STAR_MOST_SETS(n) (STAR_READ_BYTES_(n) / 7 + 1)
+/* Each row of names has a token of its own, _ and 1 byte or more: 2 bytes or more. */
+#define STAR_MOST_NAMES(n) (STAR_READ_BYTES_(n) / 3 + 1)
+/* Each row of values has a token of its own, so there are no more than tokens. */
+#define STAR_MOST_VALUES(n) STAR_MOST_TOKENS(n)
+/* Each packet has a value of its own, its first, so there are no more than values. */
+#define STAR_MOST_PACKETS(n) STAR_MOST_VALUES(n)
+
+#define STAR_TOKENS_WORDS(n) (STAR_MOST_TOKENS(n) * STAR_TOKENS_WIDTH)
+#define STAR_SETS_WORDS(n) (STAR_MOST_SETS(n) * STAR_SETS_WIDTH)
+#define STAR_NAMES_WORDS(n) (STAR_MOST_NAMES(n) * STAR_NAMES_WIDTH)
+#define STAR_PACKETS_WORDS(n) (STAR_MOST_PACKETS(n) * STAR_PACKETS_WIDTH)
+#define STAR_VALUES_WORDS(n) (STAR_MOST_VALUES(n) * STAR_VALUES_WIDTH)
+
+/*
+ * In the plain form each token has as many bytes as in the file and one byte 10
+ * after it, n + 1 at most together. A word that begins with ; also has a blank
+ * before it: at most one byte for each token.
+ */
+#define STAR_PLAIN_BYTES(n) (STAR_READ_BYTES_(n) + 1 + STAR_MOST_TOKENS(n))
 
 /* What reading answers: the refusal and its place, and the rows in each table. */
 typedef struct {
@@ -92,6 +191,22 @@ typedef struct {
 typedef struct {
     uint32_t refusal, place, length, tokens, sets, names, packets, values;
 } star_written;
+
+/* The rows of a reading, as lookups take them. */
+static inline star_counts star_counts_of(star_reading reading)
+{
+    star_counts counts = {reading.tokens, reading.sets, reading.names, reading.packets,
+                          reading.values};
+    return counts;
+}
+
+/* The rows of a writing, as lookups take them. */
+static inline star_counts star_counts_of_written(star_written written)
+{
+    star_counts counts = {written.tokens, written.sets, written.names, written.packets,
+                          written.values};
+    return counts;
+}
 
 /*
  * Reads a file.

@@ -15,7 +15,8 @@ use std::time::{Duration, Instant};
 use std::{env, process};
 
 use cases::{Case, CASES};
-use tackturnel_host::{reference, star, TablesMut};
+use tackturnel::{star, TablesMut};
+use tackturnel_tests_support::reference;
 
 /// A file and what is lent to read and write it, no larger than it needs.
 struct Ready {

@@ -1,25 +1,29 @@
-//! The STAR File reader for Rust callers, and what tests it.
+//! The verified STAR File reader for Rust callers.
 //!
-//! [`star`] holds safe wrappers around the C interface of [`raw`]. [`reference`]
-//! is a plain reader of its own, written from the rules alone; [`generate`] makes
-//! files and tables to compare the two on, and [`notation`] prints them.
+//! [`star`] holds safe wrappers around the C interface of [`raw`], which also has
+//! its constants.
+//!
+//! ```
+//! use tackturnel::{raw, star, Tables, TablesMut};
+//!
+//! let file = b"data_a _x 1";
+//! let mut tables = star::room(file.len()).map(|words| vec![0; words]);
+//! let reading = star::read(file, TablesMut::of(&mut tables));
+//! assert_eq!(reading.refusal, raw::STAR_OK);
+//!
+//! let (tables, counts) = (Tables::of(&tables), reading.counts());
+//! let block = star::find_block(file, tables, counts, b"a").row;
+//! let name = star::find_name(file, tables, counts, block, b"_x").row;
+//! assert_eq!(star::value_part(file, tables, counts, name, 1), b"1");
+//! ```
 
 #![deny(unsafe_code)]
 #![warn(missing_docs)]
 
-pub mod generate;
-pub mod notation;
 #[allow(unsafe_code)]
 pub mod raw;
-pub mod reference;
 #[allow(unsafe_code)]
 pub mod star;
 
 pub use raw::{Counts, Found, Part, Reading, Value, Written};
 pub use star::{Tables, TablesMut};
-
-/// The words of a row in each of the five tables.
-pub const WIDTHS: [usize; 5] = [3, 3, 4, 3, 3];
-
-/// The largest file and the largest plain form, in bytes.
-pub const MOST_BYTES: usize = 1_048_576;

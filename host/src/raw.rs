@@ -1,5 +1,156 @@
 //! The C interface of the library, as include/star.h declares it.
 
+// -------------------------------------------------------------- refusals
+
+/// Accepted or found.
+pub const STAR_OK: u32 = 0;
+/// A file or plain form over [`STAR_MOST_BYTES`].
+pub const STAR_TOO_LARGE: u32 = 1;
+/// A byte that is not allowed.
+pub const STAR_BAD_BYTE: u32 = 2;
+/// An ill-formed word.
+pub const STAR_BAD_WORD: u32 = 3;
+/// A name or code over [`STAR_MOST_NAME_BYTES`].
+pub const STAR_TOO_LONG: u32 = 4;
+/// A quote that is not closed on its line.
+pub const STAR_OPEN_QUOTE: u32 = 5;
+/// A text field that is not closed, or closed before another byte.
+pub const STAR_OPEN_TEXT: u32 = 6;
+/// A table or output that is too short.
+pub const STAR_TOO_SHORT: u32 = 7;
+/// A token or the end out of place.
+pub const STAR_MISPLACED: u32 = 8;
+/// A name or code that is taken already.
+pub const STAR_TAKEN: u32 = 9;
+/// A packet that is not full, or an inner level that is not closed.
+pub const STAR_INCOMPLETE: u32 = 10;
+/// A `loop_` that opens a level over [`STAR_MOST_LEVELS`].
+pub const STAR_TOO_DEEP: u32 = 11;
+/// A `global_`.
+pub const STAR_GLOBAL: u32 = 12;
+/// Lookup: not found.
+pub const STAR_NOT_FOUND: u32 = 13;
+/// Lookup: a number or row that points outside.
+pub const STAR_OUTSIDE: u32 = 14;
+
+// ----------------------------------------------------------------- kinds
+
+/// Kind of token: `data_` and a code.
+pub const STAR_TOKEN_BLOCK: u32 = 1;
+/// Kind of token: `save_` and a code.
+pub const STAR_TOKEN_FRAME: u32 = 2;
+/// Kind of token: `save_` alone.
+pub const STAR_TOKEN_FRAME_END: u32 = 3;
+/// Kind of token: `loop_`.
+pub const STAR_TOKEN_LOOP: u32 = 4;
+/// Kind of token: `stop_`.
+pub const STAR_TOKEN_STOP: u32 = 5;
+/// Kind of token: a name.
+pub const STAR_TOKEN_NAME: u32 = 6;
+/// Kind of token: a word that is none of the others.
+pub const STAR_TOKEN_WORD: u32 = 7;
+/// Kind of token: `$` and a frame code.
+pub const STAR_TOKEN_REFERENCE: u32 = 8;
+/// Kind of token: a single-quoted string.
+pub const STAR_TOKEN_SINGLE_QUOTED: u32 = 9;
+/// Kind of token: a double-quoted string.
+pub const STAR_TOKEN_DOUBLE_QUOTED: u32 = 10;
+/// Kind of token: a text field.
+pub const STAR_TOKEN_TEXT: u32 = 11;
+/// Kind of token: `global_`, which is refused and so in no table.
+pub const STAR_TOKEN_GLOBAL: u32 = 12;
+/// Kind of set: a data block.
+pub const STAR_SET_BLOCK: u32 = 1;
+/// Kind of set: a save frame.
+pub const STAR_SET_FRAME: u32 = 2;
+
+// ---------------------------------------------------------------- limits
+
+/// The words of a row of tokens.
+pub const STAR_TOKENS_WIDTH: usize = 3;
+/// The words of a row of sets.
+pub const STAR_SETS_WIDTH: usize = 3;
+/// The words of a row of names.
+pub const STAR_NAMES_WIDTH: usize = 4;
+/// The words of a row of packets.
+pub const STAR_PACKETS_WIDTH: usize = 3;
+/// The words of a row of values.
+pub const STAR_VALUES_WIDTH: usize = 3;
+/// The most bytes of a file and of a plain form.
+pub const STAR_MOST_BYTES: usize = 1_048_576;
+/// The most bytes of a name, its underscore included, and of a block or frame code.
+pub const STAR_MOST_NAME_BYTES: usize = 32;
+/// The most levels of a loop.
+pub const STAR_MOST_LEVELS: usize = 8;
+
+// ------------------------------------------------------------------ room
+
+/// The bytes of a file that are read at all.
+const fn read_bytes(n: usize) -> usize {
+    if n < STAR_MOST_BYTES {
+        n
+    } else {
+        STAR_MOST_BYTES
+    }
+}
+
+/// STAR_MOST_TOKENS: no file of `n` bytes has more rows of tokens.
+pub const fn star_most_tokens(n: usize) -> usize {
+    read_bytes(n) / 2 + 1
+}
+
+/// STAR_MOST_SETS: no file of `n` bytes has more rows of sets.
+pub const fn star_most_sets(n: usize) -> usize {
+    read_bytes(n) / 7 + 1
+}
+
+/// STAR_MOST_NAMES: no file of `n` bytes has more rows of names.
+pub const fn star_most_names(n: usize) -> usize {
+    read_bytes(n) / 3 + 1
+}
+
+/// STAR_MOST_VALUES: no file of `n` bytes has more rows of values.
+pub const fn star_most_values(n: usize) -> usize {
+    star_most_tokens(n)
+}
+
+/// STAR_MOST_PACKETS: no file of `n` bytes has more rows of packets.
+pub const fn star_most_packets(n: usize) -> usize {
+    star_most_values(n)
+}
+
+/// STAR_TOKENS_WORDS: room for the tokens of any file of `n` bytes.
+pub const fn star_tokens_words(n: usize) -> usize {
+    star_most_tokens(n) * STAR_TOKENS_WIDTH
+}
+
+/// STAR_SETS_WORDS: room for the sets of any file of `n` bytes.
+pub const fn star_sets_words(n: usize) -> usize {
+    star_most_sets(n) * STAR_SETS_WIDTH
+}
+
+/// STAR_NAMES_WORDS: room for the names of any file of `n` bytes.
+pub const fn star_names_words(n: usize) -> usize {
+    star_most_names(n) * STAR_NAMES_WIDTH
+}
+
+/// STAR_PACKETS_WORDS: room for the packets of any file of `n` bytes.
+pub const fn star_packets_words(n: usize) -> usize {
+    star_most_packets(n) * STAR_PACKETS_WIDTH
+}
+
+/// STAR_VALUES_WORDS: room for the values of any file of `n` bytes.
+pub const fn star_values_words(n: usize) -> usize {
+    star_most_values(n) * STAR_VALUES_WIDTH
+}
+
+/// STAR_PLAIN_BYTES: room for the plain form of any file of `n` bytes.
+pub const fn star_plain_bytes(n: usize) -> usize {
+    read_bytes(n) + 1 + star_most_tokens(n)
+}
+
+// --------------------------------------------------------------- answers
+
 /// What reading answers: the refusal and its place, and the rows in each table.
 #[repr(C)]
 #[derive(Clone, Copy, Debug, Default, PartialEq, Eq)]
@@ -89,6 +240,8 @@ pub struct Written {
     /// Rows of table 5.
     pub values: u32,
 }
+
+// ----------------------------------------------------------------- calls
 
 extern "C" {
     /// See include/star.h.

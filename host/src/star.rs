@@ -67,6 +67,11 @@ impl Reading {
 }
 
 impl Written {
+    /// The row counts, as lookups take them.
+    pub fn counts(&self) -> Counts {
+        self.reading().counts()
+    }
+
     /// The reading that writing answers along with its length.
     pub fn reading(&self) -> Reading {
         Reading {
@@ -79,6 +84,24 @@ impl Written {
             values: self.values,
         }
     }
+}
+
+/// The words to lend to each table for a file of so many bytes: none is then too
+/// short, whatever the file holds.
+pub const fn room(bytes: usize) -> [usize; 5] {
+    [
+        raw::star_tokens_words(bytes),
+        raw::star_sets_words(bytes),
+        raw::star_names_words(bytes),
+        raw::star_packets_words(bytes),
+        raw::star_values_words(bytes),
+    ]
+}
+
+/// The bytes to lend to the output for a file of so many bytes: it is then not
+/// too short, whatever the file holds.
+pub const fn plain_room(bytes: usize) -> usize {
+    raw::star_plain_bytes(bytes)
 }
 
 /// Reads a file into the tables.

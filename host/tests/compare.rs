@@ -9,9 +9,9 @@ mod harness;
 use std::env;
 use std::time::{Duration, Instant};
 
-use harness::{check, check_lookups, read, round_trip, write, Tally};
-use tackturnel_host::generate::{self, Handed, Rng};
-use tackturnel_host::reference;
+use harness::{by_length, check, check_lookups, read, round_trip, write, Tally};
+use tackturnel_tests_support::generate::{self, Handed, Rng};
+use tackturnel_tests_support::reference;
 
 fn setting(name: &str, otherwise: f64) -> f64 {
     match env::var(name) {
@@ -101,6 +101,25 @@ fn writing_into_every_room() {
             check("writing", seed, &file, |file| write(seed, file, spare, spare_out));
         }
     });
+}
+
+#[test]
+fn room_by_length() {
+    let mut tally = Tally::default();
+    seeds("room by length", 20_000, 8, |seed| {
+        let rng = &mut Rng::new(seed + 6_000_000);
+        let file = if rng.once_in(2) { generate::valid(rng) } else { some_file(rng) };
+        let answer = check("room by length", seed, &file, |file| by_length(seed, file));
+        tally[answer.refusal as usize] += 1;
+    });
+    require("room by length", &tally, &[0, 2, 3, 4, 5, 6, 8, 9, 10, 11, 12]);
+}
+
+#[test]
+fn room_by_length_of_largest_files() {
+    for (name, file) in generate::largest() {
+        check(name, 0, &file, |file| by_length(0, file));
+    }
 }
 
 #[test]

@@ -2,8 +2,9 @@
 
 use std::collections::HashSet;
 
-use tackturnel_host::notation::{escaped, vectors};
-use tackturnel_host::{reference, star, Counts, Reading, Tables, TablesMut, Written};
+use tackturnel::{raw, star, Counts, Reading, Tables, TablesMut, Written};
+use tackturnel_tests_support::notation::{escaped, vectors};
+use tackturnel_tests_support::reference;
 
 /// The answers of both calls on a file, tables of 900 words and an output of
 /// 2,000 bytes, all filled with 7s before.
@@ -72,7 +73,7 @@ fn texts(column: Vec<(u32, String)>) -> Vec<String> {
     column.into_iter().map(|(_, text)| text).collect()
 }
 
-/// The examples of document 001.
+/// The examples of Hall, Allen & Brown 1991 (specification 1.3).
 #[test]
 fn examples_of_1991() {
     let file = "data_compound_B523\n\
@@ -96,7 +97,7 @@ fn examples_of_1991() {
     assert_eq!(one("_exptl_crystal_face_index_l"), ["-1", "1", "0", "0", "0", "0"]);
 }
 
-/// The loops of documents 002 and 003, one level to three.
+/// The loops of Hall & Spadaccini 1994 and of International Tables G, one level to three.
 #[test]
 fn examples_of_loops() {
     let simple = "data_a loop_\n _atom_identity_number\n _atom_type_symbol      1 C   2 C   3 O\n";
@@ -126,7 +127,7 @@ fn examples_of_loops() {
     assert_eq!(texts(column(levels, "a", None, "_function_coefficient"))[8], "1.0000000E+01");
 }
 
-/// The save frames and data blocks of documents 002 and 003.
+/// The save frames and data blocks of Hall & Spadaccini 1994 and of International Tables G.
 #[test]
 fn examples_of_sets() {
     let file = "data_example\nsave_phenyl\n  _object_class      molecular_fragment\n  loop_\n\
@@ -186,4 +187,130 @@ fn measurement_is_read() {
     let kinds: HashSet<u32> = tables.tokens.chunks(3).map(|row| row[0]).collect();
     assert!((1..=11).all(|kind| kinds.contains(&kind)), "{kinds:?}");
     assert!(tables.packets.chunks(3).any(|row| row[1] == 3));
+}
+
+/// The answer with the room that the file's length asks for, one table having
+/// this many words less.
+fn read_by_length(file: &str, table: usize, less: usize) -> Reading {
+    let mut room = star::room(file.len());
+    room[table] -= less;
+    let mut tables = room.map(|words| vec![7; words]);
+    star::read(file.as_bytes(), TablesMut::of(&mut tables))
+}
+
+/// Files that need all of the room that their length asks for.
+#[test]
+fn room_by_length_is_needed() {
+    // words of one byte have the most tokens; the grammar comes after their room
+    for words in [1, 2, 3, 94, 1000] {
+        let file = vec!["1"; words].join(" ");
+        assert_eq!(raw::star_most_tokens(file.len()), words);
+        let answer = read_by_length(&file, 0, 0);
+        assert_eq!((answer.refusal, answer.place), (raw::STAR_MISPLACED, 0));
+        let answer = read_by_length(&file, 0, 1);
+        assert_eq!((answer.refusal, answer.place), (raw::STAR_TOO_SHORT, 1));
+    }
+    // blocks with codes of one byte have the most sets
+    for blocks in 1..=94 {
+        let heading = |code: u8| format!("data_{}", code as char);
+        let file = (33..33 + blocks).map(heading).collect::<Vec<_>>().join(" ");
+        assert_eq!(raw::star_most_sets(file.len()), blocks as usize);
+        let answer = read_by_length(&file, 1, 0);
+        assert_eq!((answer.refusal, answer.sets), (raw::STAR_OK, blocks.into()));
+        let answer = read_by_length(&file, 1, 1);
+        assert_eq!((answer.refusal, answer.place), (raw::STAR_TOO_SHORT, 2));
+    }
+}
+
+/// Accepted files that lack only the rows of what must stand beside them.
+#[test]
+fn room_by_length_is_nearly_needed() {
+    let accepted = |file: &str| {
+        let reading = read_by_length(file, 0, 0);
+        assert_eq!(reading.refusal, raw::STAR_OK, "{file}");
+        (file.len(), reading.counts())
+    };
+    let (bytes, counts) = accepted("data_a _x 1");
+    assert_eq!((raw::star_most_tokens(bytes), counts.tokens), (6, 3));
+    for values in [1, 2, 93, 1000] {
+        let file = format!("data_a loop_ _x{}", " 1".repeat(values));
+        let (bytes, counts) = accepted(&file);
+        assert_eq!(raw::star_most_tokens(bytes) - counts.tokens as usize, 5);
+        assert_eq!(raw::star_most_values(bytes) - counts.values as usize, 8);
+        assert_eq!(raw::star_most_packets(bytes) - counts.packets as usize, 8);
+    }
+    for names in 2..=94 {
+        let inner: String =
+            (34..33 + names).map(|name: u8| format!(" _{}", name as char)).collect();
+        let (bytes, counts) = accepted(&format!("data_a loop_ _! loop_{inner} 1 stop_"));
+        assert_eq!(raw::star_most_names(bytes) - counts.names as usize, 9);
+    }
+    for words in [1, 2, 93, 1000] {
+        let file = format!("data_a loop_ _x{}", " ;".repeat(words));
+        let mut tables = star::room(file.len()).map(|words| vec![7; words]);
+        let mut out = vec![7; star::plain_room(file.len())];
+        let written = star::write(file.as_bytes(), TablesMut::of(&mut tables), &mut out);
+        assert_eq!(written.refusal, raw::STAR_OK);
+        assert_eq!(out.len() - written.length as usize, 8);
+    }
+}
+
+/// The constants stand for what their names say.
+#[test]
+fn constants_name_the_answers() {
+    let most = raw::STAR_MOST_BYTES;
+    let name = |bytes: usize| format!("data_a _{} 1", "n".repeat(bytes - 1));
+    let levels = |count: usize| {
+        let header: String = (1..=count).map(|level| format!(" loop_ _{level}")).collect();
+        format!("data_a{header} 1 stop_")
+    };
+    for (file, refusal) in [
+        (" ".repeat(most), raw::STAR_OK),
+        (" ".repeat(most + 1), raw::STAR_TOO_LARGE),
+        ("data_a _x \x7f".into(), raw::STAR_BAD_BYTE),
+        ("data_".into(), raw::STAR_BAD_WORD),
+        (name(raw::STAR_MOST_NAME_BYTES), raw::STAR_OK),
+        (name(raw::STAR_MOST_NAME_BYTES + 1), raw::STAR_TOO_LONG),
+        ("data_a _x 'a".into(), raw::STAR_OPEN_QUOTE),
+        ("data_a _x\n;p".into(), raw::STAR_OPEN_TEXT),
+        ("data_a _x".into(), raw::STAR_MISPLACED),
+        ("data_a data_a".into(), raw::STAR_TAKEN),
+        ("data_a loop_ _x _y 1 2 3".into(), raw::STAR_INCOMPLETE),
+        ("data_a loop_ _x loop_ _y 1".into(), raw::STAR_INCOMPLETE),
+        (levels(raw::STAR_MOST_LEVELS), raw::STAR_OK),
+        (levels(raw::STAR_MOST_LEVELS + 1), raw::STAR_TOO_DEEP),
+        ("global_".into(), raw::STAR_GLOBAL),
+    ] {
+        assert_eq!(read_by_length(&file, 0, 0).refusal, refusal, "{}", &file[..file.len().min(99)]);
+    }
+
+    let file = b"data_a save_f save_ loop_ _x loop_ _y w stop_ $f stop_ 's' stop_ \"d\" stop_\n;t\n; stop_";
+    let (reading, tables, ..) = answers(file);
+    assert_eq!(reading.refusal, raw::STAR_OK);
+    let kinds: Vec<u32> = tables[0].chunks(raw::STAR_TOKENS_WIDTH).map(|row| row[0]).collect();
+    let expected = [
+        raw::STAR_TOKEN_BLOCK,
+        raw::STAR_TOKEN_FRAME,
+        raw::STAR_TOKEN_FRAME_END,
+        raw::STAR_TOKEN_LOOP,
+        raw::STAR_TOKEN_NAME,
+        raw::STAR_TOKEN_LOOP,
+        raw::STAR_TOKEN_NAME,
+        raw::STAR_TOKEN_WORD,
+        raw::STAR_TOKEN_STOP,
+        raw::STAR_TOKEN_REFERENCE,
+        raw::STAR_TOKEN_STOP,
+        raw::STAR_TOKEN_SINGLE_QUOTED,
+        raw::STAR_TOKEN_STOP,
+        raw::STAR_TOKEN_DOUBLE_QUOTED,
+        raw::STAR_TOKEN_STOP,
+        raw::STAR_TOKEN_TEXT,
+        raw::STAR_TOKEN_STOP,
+    ];
+    assert_eq!(kinds[..reading.tokens as usize], expected);
+    let sets: Vec<u32> = tables[1].chunks(raw::STAR_SETS_WIDTH).map(|row| row[0]).collect();
+    assert_eq!(sets[..reading.sets as usize], [raw::STAR_SET_BLOCK, raw::STAR_SET_FRAME]);
+    let (tables, counts) = (Tables::of(&tables), reading.counts());
+    assert_eq!(star::find_block(file, tables, counts, b"b").refusal, raw::STAR_NOT_FOUND);
+    assert_eq!(star::find_name(file, tables, counts, 3, b"_x").refusal, raw::STAR_OUTSIDE);
 }

@@ -5,9 +5,10 @@ use std::fmt::{Debug, Write};
 use std::sync::OnceLock;
 use std::time::{Duration, Instant};
 
-use tackturnel_host::generate::{Handed, Question, Rng};
-use tackturnel_host::notation::escaped;
-use tackturnel_host::{reference, star, Part, Reading, Tables, TablesMut, Written, WIDTHS};
+use tackturnel::{raw, star, Counts, Part, Reading, Tables, TablesMut, Written};
+use tackturnel_tests_support::generate::{Handed, Question, Rng};
+use tackturnel_tests_support::notation::escaped;
+use tackturnel_tests_support::{reference, WIDTHS};
 
 const TABLES: [&str; 5] = ["tokens", "sets", "names", "packets", "values"];
 
@@ -207,10 +208,15 @@ pub fn room(file: &[u8], spare: [isize; 5]) -> [usize; 5] {
     room
 }
 
-/// Reads a file with tables of these lengths by both.
+/// Reads a file by both, with tables of this many words more, or less, than
+/// needed.
 pub fn read(seed: u64, file: &[u8], spare: [isize; 5]) -> Result<Reading, String> {
+    read_into(seed, file, room(file, spare))
+}
+
+/// Reads a file by both, with tables of these lengths.
+pub fn read_into(seed: u64, file: &[u8], room: [usize; 5]) -> Result<Reading, String> {
     let rng = &mut Rng::new(seed);
-    let room = room(file, spare);
     let lent_file = lent_bytes(rng, file);
     let mut tables = room.map(|length| junk_words(rng, length));
     let answer = star::read(lent_file.range(), lend_mut(&mut tables));
@@ -222,18 +228,27 @@ pub fn read(seed: u64, file: &[u8], spare: [isize; 5]) -> Result<Reading, String
     differences.end(expected)
 }
 
-/// Writes a file with tables and an output of these lengths by both; the
-/// output is to have this many bytes more, or less, than the plain form.
+/// Writes a file by both, with tables of this many words more, or less, than
+/// needed, and an output of this many bytes more, or less, than the plain form.
 pub fn write(
     seed: u64,
     file: &[u8],
     spare: [isize; 5],
     spare_out: isize,
 ) -> Result<(Written, Vec<u8>), String> {
-    let rng = &mut Rng::new(seed);
-    let room = room(file, spare);
     let plain = reference::tokens(file).map(|tokens| reference::plain_form(file, &tokens).len());
     let out_length = plain.unwrap_or(0).saturating_add_signed(spare_out);
+    write_into(seed, file, room(file, spare), out_length)
+}
+
+/// Writes a file by both, with tables and an output of these lengths.
+pub fn write_into(
+    seed: u64,
+    file: &[u8],
+    room: [usize; 5],
+    out_length: usize,
+) -> Result<(Written, Vec<u8>), String> {
+    let rng = &mut Rng::new(seed);
     let lent_file = lent_bytes(rng, file);
     let mut tables = room.map(|length| junk_words(rng, length));
     let junk: Vec<u8> = (0..out_length).map(|_| rng.number() as u8 | 1).collect();
@@ -281,6 +296,36 @@ pub fn round_trip(file: &[u8]) -> Result<(), String> {
     differences.answer("writing the plain form", rewritten, written);
     differences.words("the plain form of the plain form", &twice, plain);
     differences.end(())
+}
+
+/// Reads and writes a file by both, with the room that its length asks for:
+/// nothing may be too short, and no table may have more rows than are said.
+pub fn by_length(seed: u64, file: &[u8]) -> Result<Reading, String> {
+    let bytes = file.len();
+    let reading = read_into(seed, file, star::room(bytes))?;
+    let (written, _) = write_into(seed, file, star::room(bytes), star::plain_room(bytes))?;
+    for (call, refusal, place) in
+        [("reading", reading.refusal, reading.place), ("writing", written.refusal, written.place)]
+    {
+        if refusal == raw::STAR_TOO_SHORT {
+            return Err(format!("  {call}: {place} is too short by the length"));
+        }
+    }
+    let most = [
+        raw::star_most_tokens(bytes),
+        raw::star_most_sets(bytes),
+        raw::star_most_names(bytes),
+        raw::star_most_packets(bytes),
+        raw::star_most_values(bytes),
+    ];
+    let Counts { tokens, sets, names, packets, values } = reading.counts();
+    let counts = [tokens, sets, names, packets, values];
+    for (table, name) in TABLES.into_iter().enumerate() {
+        if counts[table] as usize > most[table] {
+            return Err(format!("  {name}: {} rows, not {} or fewer", counts[table], most[table]));
+        }
+    }
+    Ok(reading)
 }
 
 // ---------------------------------------------------------------- lookups

@@ -2,7 +2,9 @@
 
 use std::collections::HashSet;
 
-use crate::{Counts, MOST_BYTES, WIDTHS};
+use tackturnel::Counts;
+
+use crate::{MOST_BYTES, WIDTHS};
 
 // -------------------------------------------------------------- numbers
 

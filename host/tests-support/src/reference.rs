@@ -7,7 +7,9 @@
 
 use std::collections::HashSet;
 
-use crate::{Counts, Found, Part, Reading, Tables, Value, Written, MOST_BYTES, WIDTHS};
+use tackturnel::{Counts, Found, Part, Reading, Tables, Value, Written};
+
+use crate::{MOST_BYTES, WIDTHS};
 
 /// A refusal's number and place.
 #[derive(Clone, Copy, Debug, PartialEq, Eq)]
@@ -620,7 +622,7 @@ mod tests {
 
     #[test]
     fn vectors_are_answered() {
-        let list = vectors(include_str!("../vectors/base.txt"));
+        let list = vectors(include_str!("../../vectors/base.txt"));
         assert_eq!(list.len(), 130);
         for vector in list {
             let (answer, tables) = read(&vector.file, ROOM);
@@ -691,7 +693,7 @@ mod tests {
         assert_eq!(value_of("C#N"), b"C#N");
         assert_eq!(value_of("''' "), b"'");
         assert_eq!(value_of(";b"), b";b");
-        // the text field of document 000
+        // the text field of International Tables G, 2.1.3
         assert_eq!(value_of("\\n; School of CSSE\\n  UWA\\n;"), b" School of CSSE\n  UWA");
     }
 

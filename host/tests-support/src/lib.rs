@@ -1,0 +1,19 @@
+//! What tests the STAR File reader from outside.
+//!
+//! [`reference`] is a plain reader of its own, written from the specification
+//! alone; [`generate`] makes files and tables to compare the two on, and
+//! [`notation`] prints them. Of the package under test only the types that calls
+//! take and answer are used here.
+
+#![forbid(unsafe_code)]
+#![warn(missing_docs)]
+
+pub mod generate;
+pub mod notation;
+pub mod reference;
+
+/// The words of a row in each of the five tables.
+pub const WIDTHS: [usize; 5] = [3, 3, 4, 3, 3];
+
+/// The largest file and the largest plain form, in bytes.
+pub const MOST_BYTES: usize = 1_048_576;
