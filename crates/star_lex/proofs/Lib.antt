@@ -7,6 +7,7 @@ pub mod FreshName
 pub mod Lexemes
 pub mod Lexing
 pub mod Parts
+pub mod Bound
 pub mod PlainSplit
 pub mod Splitting
 pub mod Steps
