@@ -18,7 +18,7 @@ use Rattle.star_lex.proofs.Splitting.{row-wide}
 use Rattle.star_grammar.specs.Tables.{Rows, rowsOf, setWords, nameWords, packetWords, valueWords}
 use Rattle.star_grammar.specs.Tree.{File}
 use Rattle.star_grammar.specs.Reading.{Reading}
-use Rattle.star_grammar.proofs.Counted.{set-wide, name-wide, packet-wide, value-wide}
+use Rattle.star_grammar.proofs.Widths.{set-wide, name-wide, packet-wide, value-wide}
 use Rattle.star_grammar.proofs.RowsOf.{contentIn, nameIn, setIn, fileNames, fileSets, IsToken, Inside, TreeRows, tree-rows}
 use Rattle.star_unique.specs.Holds.{tokenAt}
 use Rattle.star_unique.proofs.Held.{Row, held-row}

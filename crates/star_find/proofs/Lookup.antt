@@ -11,7 +11,7 @@ use Rattle.star_rows.specs.Rows.{holding}
 use Rattle.star_lex.specs.Tokens.{Placed}
 use Rattle.star_grammar.specs.Tree.{File}
 use Rattle.star_grammar.specs.Tables.{SetRow, NameRow, Rows, setWords, nameWords}
-use Rattle.star_grammar.proofs.Counted.{name-wide, set-wide}
+use Rattle.star_grammar.proofs.Widths.{name-wide, set-wide}
 use Rattle.star_grammar.proofs.RowsOf.{contentIn, nameIn, setIn, fileSets, IsToken}
 use Rattle.star_unique.proofs.Held.{each-at}
 use Rattle.star_read.specs.Read.{accepted, Sizes, tokensOnly, readOf}

@@ -14,7 +14,7 @@ use Rattle.star_rows.specs.Rows.{holding}
 use Rattle.star_lex.specs.Tokens.{Placed, tokenRow}
 use Rattle.star_lex.specs.Found.{isSome}
 use Rattle.star_grammar.specs.Tables.{ValueRow, Rows, valueWords}
-use Rattle.star_grammar.proofs.Counted.{value-wide}
+use Rattle.star_grammar.proofs.Widths.{value-wide}
 use Rattle.star_grammar.proofs.RowsOf.{IsToken, Inside}
 use Rattle.star_unique.proofs.Held.{each-at}
 use Rattle.star_read.specs.Read.{accepted, Sizes, readOf}

@@ -13,11 +13,5 @@ pub mod Formed
 pub mod Limits
 pub mod Refusals
 pub mod Marks
-pub mod Ahead
-pub mod Counted
-pub mod Going
-pub mod Headers
-pub mod Levels
-pub mod RunKinds
-pub mod Refusing
 pub mod RowsOf
+pub mod Widths

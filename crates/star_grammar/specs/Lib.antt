@@ -3,5 +3,3 @@ pub mod Tables
 pub mod Machine
 pub mod Rest
 pub mod Reading
-pub mod Parsed
-pub mod Reader

@@ -14,7 +14,7 @@ use Rattle.star_lex.specs.Split.{placed, tokensOf}
 use Rattle.star_lex.proofs.Splitting.{row-wide}
 use Rattle.star_grammar.specs.Tables.{Rows}
 use Rattle.star_grammar.specs.Machine.{State, Run, bad, good, run}
-use Rattle.star_grammar.specs.declared.Parsed.{Parsed}
+use Rattle.star_parse.specs.declared.Parsed.{Parsed}
 use Rattle.star_grammar.proofs.Walking.{Halts, bad-halts}
 use Rattle.star_grammar.proofs.Refusals.{Refusal, refusal, EndRefusal, end-refusal}
 use Rattle.star_unique.specs.Holds.{Holds}

@@ -13,10 +13,10 @@ use Rattle.star_lex.specs.Tokens.{Placed, tokenRow}
 use Rattle.star_lex.specs.Split.{placed, tokensOf}
 use Rattle.star_grammar.specs.Tables.{Rows, noRows, setWords, nameWords, packetWords, valueWords}
 use Rattle.star_grammar.specs.Machine.{Run, bad, good, run, start}
-use Rattle.star_grammar.specs.Parsed.{FourTables, Answers, Accepted, kindTokens, rowsRun}
-use Rattle.star_grammar.specs.declared.Parsed.{Parsed}
-use Rattle.star_grammar.proofs.Counted.{set-wide, name-wide, packet-wide, value-wide}
-use Rattle.star_grammar.proofs.RunKinds.{run-holding, rows-run}
+use Rattle.star_parse.specs.Parsed.{FourTables, Answers, Accepted, kindTokens, rowsRun}
+use Rattle.star_parse.specs.declared.Parsed.{Parsed}
+use Rattle.star_grammar.proofs.Widths.{set-wide, name-wide, packet-wide, value-wide}
+use Rattle.star_parse.proofs.RunKinds.{run-holding, rows-run}
 use Rattle.star_unique.specs.Holds.{Holds, fileTokens}
 use Rattle.star_unique.specs.Repeat.{nothing, firstRepeat}
 use Rattle.star_unique.proofs.Held.{count-small}

@@ -10,8 +10,8 @@ use Rattle.star_lex.specs.Tokens.{tokenRow}
 use Rattle.star_grammar.specs.Tables.{setWords, nameWords, packetWords, valueWords}
 use Rattle.star_read.specs.Read.{Outcome, refused, accepted, Sizes}
 use Rattle.star_grammar.specs.Machine.{Run, bad, good}
-use Rattle.star_grammar.specs.Parsed.{FourTables}
-use Rattle.star_grammar.specs.declared.Parsed.{Parsed}
+use Rattle.star_parse.specs.Parsed.{FourTables}
+use Rattle.star_parse.specs.declared.Parsed.{Parsed}
 use Rattle.star_read.specs.declared.Reading.{Reading}
 use Rattle.star_read.specs.declared.Judged.{Judged}
 

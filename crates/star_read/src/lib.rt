@@ -8,8 +8,8 @@ ghost use Rattle.star_unique.specs.Holds.{Holds, fileTokens};
 ghost use Rattle.star_unique.specs.Repeat.{nothing, firstRepeat};
 ghost use Rattle.star_read.specs.Read.{refused, placeOf, fitting, grammarOf, readOf};
 ghost use Rattle.star_read.specs.Answer.{answerOf, tables, sizes, judgedOf, words, roomOf, Ran, Leaves, ClearedBehind};
-ghost use Rattle.star_grammar.specs.Parsed.{tables as four};
-use star_grammar::Parsed;
+ghost use Rattle.star_parse.specs.Parsed.{tables as four};
+use star_parse::Parsed;
 
 // What reading answers: refusal and place, both 0 when accepted, and the number of rows of each table.
 #[repr(C)]
@@ -180,7 +180,7 @@ fn read_tables(
         (tables (now (tokens .exit)) (now (sets .exit)) (now (names .exit)) (now (packets .exit)) (now (values .exit))) ⌝ }
 {
     let n = count as usize;
-    let rows = star_grammar::read_rows(tokens, n, sets, names, packets, values);
+    let rows = star_parse::read_rows(tokens, n, sets, names, packets, values);
     let judged = judge(
         file,
         tokens,

@@ -1,0 +1,245 @@
+-- How a read goes on: over each token that the state takes, to the refusal where it takes none, and from a state to one that runs alike.
+use mathlib.Core.Path.{_≡_, refl, sym, ap, _∙_}
+use mathlib.Core.List.{List, [], _∷_, reverseAux}
+use Prim.Native.Nat.{ℕ, zero, suc, _+_, _≤_, _<_}
+use native.Mathlib.Numerals.{add-one}
+use native.Mathlib.Omega.{arith}
+use lib.ListN.{length, drop}
+use borrow.Author.Tests.{lt-ltb, le-ltb}
+use Rattle.star_lex.specs.Tokens.{Token}
+use Rattle.star_grammar.specs.Tables.{Rows, pass, openLoop, putSet, putName, putPacket, putValue}
+use Rattle.star_grammar.specs.Machine.{Sort, sortOf, Where, inBlock, inFrame, setOf, Level, parentOf, State, start, within, named, header, body, go, between, filled, fill, valueAt, headerStep, noValue, noValueAt, bodyStep, startStep, namedStep, step, Run, good, endBetween, endRun, run}
+use Rattle.star_parse.specs.Parsed.{FourTables, tables}
+use Rattle.star_parse.specs.Reader.{sortNumber, ahead, Moved, Misplaced, Put, Matches, At, Comes, Whole, partly}
+use Rattle.star_parse.specs.declared.progress.Progress.{Progress}
+use Rattle.star_grammar.proofs.Sorts.{onward, run-alike}
+use Rattle.star_parse.proofs.Ahead.{run-ahead, run-end, drop-next, refusal-some}
+use Rattle.star_parse.proofs.Counted.{matches-pass, matches-open, matches-set, matches-name, matches-packet, matches-value}
+use Rattle.star_parse.proofs.Refusing.{Refuses, partial-refuses}
+use Rattle.star_grammar.proofs.Complete.{level, any-packet, NoValue, after-loop, step-begin, step-loop, step-item, step-deeper}
+
+no-value : (ts : List Token) → (ahead ts ≡ 7 → ⊥) → NoValue ts
+unfolding ahead sortNumber
+no-value [] h = tt
+no-value (t ∷ ts) h = λ e. h (ap sortNumber e)
+
+closed-step : (b : ℕ) (k : Sort) (r : Rows) → (sortNumber k ≡ 2 → ⊥) → (sortNumber k ≡ 4 → ⊥) → (sortNumber k ≡ 6 → ⊥)
+    → step 8 start k r ≡ step 8 (within (inBlock b)) k r
+unfolding step startStep between sortNumber
+closed-step b Sort.block r f l n = refl
+closed-step b Sort.frame r f l n = absurd (f refl)
+closed-step b Sort.frameEnd r f l n = refl
+closed-step b Sort.loop r f l n = absurd (l refl)
+closed-step b Sort.stop r f l n = refl
+closed-step b Sort.name r f l n = absurd (n refl)
+closed-step b Sort.value r f l n = refl
+closed-step b Sort.global r f l n = refl
+
+block-closed : (b : ℕ) (ts : List Token) (r : Rows) → (ahead ts ≡ 2 → ⊥) → (ahead ts ≡ 4 → ⊥) → (ahead ts ≡ 6 → ⊥)
+    → run 8 start ts r ≡ run 8 (within (inBlock b)) ts r
+unfolding ahead run endRun endBetween
+block-closed b [] r f l n = refl
+block-closed b (t ∷ ts) r f l n = run-alike 8 start (within (inBlock b)) t ts r (closed-step b (sortOf (t .kind)) r f l n)
+
+module _ (tokens : List Token) (before : FourTables) (outcome : Run) where
+  -- over the next token
+  step-on : (k : Sort) (put : Rows → Rows) {from to : State} {p r : Progress} {t u : FourTables} → At tokens before outcome from p t
+      → ahead (drop (p .at) tokens) ≡ sortNumber k → r .at ≡ p .at + 1
+      → ((rows : Rows) → Matches before rows p t → step 8 from k rows ≡ go to (put rows))
+      → ((rows : Rows) → Matches before rows p t → Matches before (put rows) r u) → At tokens before outcome to r u
+  step-on k put {from} {to} {p} {r} a e n s m = record {
+    rows = put (a .rows);
+    matches = m (a .rows) (a .matches);
+    left = ap (λ ts. run 8 to ts (put (a .rows))) (sym (drop-next tokens (p .at) (r .at) n))
+        ∙ ap (onward 8 (drop 1 (drop (p .at) tokens)) (a .rows)) (sym (s (a .rows) (a .matches)))
+        ∙ sym (run-ahead 8 from (drop (p .at) tokens) (a .rows) k e)
+        ∙ a .left;
+  }
+
+  -- a state that runs alike from here
+  pub alike : {from to : State} {p : Progress} {t : FourTables} → At tokens before outcome from p t
+      → ((rows : Rows) → run 8 to (drop (p .at) tokens) rows ≡ run 8 from (drop (p .at) tokens) rows) → At tokens before outcome to p t
+  alike a e = record { rows = a .rows; matches = a .matches; left = e (a .rows) ∙ a .left }
+
+  -- no refusal yet
+  pub comes : {st : State} {p : Progress} {t : FourTables} → p .refusal ≡ 0 → At tokens before outcome st p t → Comes tokens before outcome st p t
+  comes e a = record { goes = λ _. a; ends = λ n. absurd (n e) }
+
+  -- refused before
+  pub stays : {from to : State} {p : Progress} {t : FourTables} → (p .refusal ≡ 0 → ⊥) → Comes tokens before outcome from p t → Comes tokens before outcome to p t
+  stays n k = record { goes = λ e. absurd (n e); ends = k .ends }
+
+  -- from a state to another, unless refused
+  pub onto : {from to : State} {p : Progress} {t : FourTables} → (At tokens before outcome from p t → At tokens before outcome to p t)
+      → Comes tokens before outcome from p t → Comes tokens before outcome to p t
+  onto f k = record { goes = λ e. f (k .goes e); ends = k .ends }
+
+  -- refused at the next token
+  pub refused : {from to : State} {p r : Progress} {t u : FourTables} (number sort : ℕ) → 0 < number → At tokens before outcome from p t
+      → sort ≡ ahead (drop (p .at) tokens) → Refuses from number (ahead (drop (p .at) tokens)) (drop (p .at) tokens)
+      → Misplaced p number sort r → Comes tokens before outcome to r u
+  refused {p = p} {r = r} number sort some a e f q = record {
+    goes = λ z. absurd (omega (arith, q .refusal, refusal-some number sort some));
+    ends = λ _. sym (a .left) ∙ f (a .rows) ∙ rw (q .refusal, q .at, e, a .matches .at);
+  }
+
+  -- the headings of blocks and frames, and `save_`
+  pub over-block : {p r : Progress} {t : FourTables} {sets : List ℕ} → At tokens before outcome start p t → ahead (drop (p .at) tokens) ≡ 1
+      → Put (1 ∷ (p .at + 1) ∷ 0 ∷ []) (p .sets) (t .sets) sets (Moved p 1 0 1 0 0 0 r)
+      → At tokens before outcome (within (inBlock (r .sets))) r (tables sets (t .names) (t .packets) (t .values))
+  unfolding step startStep sortNumber
+  over-block {p} {r} {t} a e q =
+      step-on Sort.block (putSet 1 0) a e (q .counted .at)
+      (λ rows m. ap (λ n. go (within (inBlock n)) (putSet 1 0 rows)) (omega (arith, m .sets, q .counted .sets)))
+      (λ rows m. matches-set before rows p r t m 1 0 _ q)
+
+  pub over-frame : {b : ℕ} {p r : Progress} {t : FourTables} {sets : List ℕ} → At tokens before outcome (within (inBlock b)) p t
+      → ahead (drop (p .at) tokens) ≡ 2 → Put (2 ∷ (p .at + 1) ∷ b ∷ []) (p .sets) (t .sets) sets (Moved p 1 0 1 0 0 0 r)
+      → At tokens before outcome (within (inFrame b (r .sets))) r (tables sets (t .names) (t .packets) (t .values))
+  unfolding step between sortNumber
+  over-frame {b} {p} {r} {t} a e q =
+      step-on Sort.frame (putSet 2 b) a e (q .counted .at)
+      (λ rows m. ap (λ n. go (within (inFrame b n)) (putSet 2 b rows)) (omega (arith, m .sets, q .counted .sets)))
+      (λ rows m. matches-set before rows p r t m 2 b _ q)
+
+  pub over-frame-end : {b s : ℕ} {p r : Progress} {t : FourTables} → At tokens before outcome (within (inFrame b s)) p t
+      → ahead (drop (p .at) tokens) ≡ 3 → Moved p 1 0 0 0 0 0 r → At tokens before outcome (within (inBlock b)) r t
+  unfolding step between sortNumber
+  over-frame-end {p = p} {r = r} {t = t} a e v =
+      step-on Sort.frameEnd pass a e (v .at) (λ rows m. refl) (λ rows m. matches-pass before rows p r t m v)
+
+  -- an item's name and its value
+  pub over-name : {w : Where} {set : ℕ} {p r : Progress} {t : FourTables} {names : List ℕ} → At tokens before outcome (within w) p t → setOf w ≡ set
+      → ahead (drop (p .at) tokens) ≡ 6 → Put (set ∷ (p .at + 1) ∷ 0 ∷ 0 ∷ []) (p .names) (t .names) names (Moved p 1 0 0 1 0 0 r)
+      → At tokens before outcome (named w) r (tables (t .sets) names (t .packets) (t .values))
+  unfolding sortNumber
+  over-name {w} {set} {p} {r} {t} a s e q =
+      step-on Sort.name (putName set 0 0) a e (q .counted .at)
+      (λ rows m. step-item 8 w rows ∙ ap (λ n. go (named w) (putName n 0 0 rows)) s)
+      (λ rows m. matches-name before rows p r t m set 0 0 _ q)
+
+  pub over-item-value : {w : Where} {p r : Progress} {t : FourTables} {values : List ℕ} → At tokens before outcome (named w) p t
+      → ahead (drop (p .at) tokens) ≡ 7 → Put (p .names ∷ 0 ∷ (p .at + 1) ∷ []) (p .values) (t .values) values (Moved p 1 0 0 0 0 1 r)
+      → At tokens before outcome (within w) r (tables (t .sets) (t .names) (t .packets) values)
+  unfolding step namedStep sortNumber
+  over-item-value {w} {p} {r} {t} a e q =
+      step-on Sort.value (putValue (p .names) 0) a e (q .counted .at)
+      (λ rows m. ap (λ n. go (within w) (putValue n 0 rows)) (sym (m .names)))
+      (λ rows m. matches-value before rows p r t m (p .names) 0 _ q)
+
+  -- the header of a loop
+  pub over-loop : {w : Where} {p r : Progress} {t : FourTables} → At tokens before outcome (within w) p t → ahead (drop (p .at) tokens) ≡ 4
+      → Moved p 1 1 0 0 0 0 r → At tokens before outcome (header w (r .names + 1) [] 0 0) r t
+  unfolding sortNumber
+  over-loop {w} {p} {r} {t} a e v =
+      step-on Sort.loop openLoop a e (v .at)
+      (λ rows m. step-loop 8 w rows ∙ ap (λ n. go (header w n [] 0 0) (openLoop rows)) (omega (arith, m .names, v .names)))
+      (λ rows m. matches-open before rows p r t m v)
+
+  pub over-level-name : {w : Where} {first set number : ℕ} {outer : List ℕ} {n : ℕ} {p r : Progress} {t : FourTables} {names : List ℕ}
+      → At tokens before outcome (header w first outer n 0) p t → setOf w ≡ set → suc (length outer) ≡ number → ahead (drop (p .at) tokens) ≡ 6
+      → Put (set ∷ (p .at + 1) ∷ p .loops ∷ number ∷ []) (p .names) (t .names) names (Moved p 1 0 0 1 0 0 r)
+      → At tokens before outcome (header w first outer (suc n) 0) r (tables (t .sets) names (t .packets) (t .values))
+  unfolding step headerStep sortNumber
+  over-level-name {w} {first} {set} {number} {outer} {n} {p} {r} {t} a s d e q =
+      step-on Sort.name (putName set (p .loops) number) a e (q .counted .at)
+      (λ rows m. rw (s, d, m .loops))
+      (λ rows m. matches-name before rows p r t m set (p .loops) number _ q)
+
+  pub over-level : {w : Where} {first : ℕ} {outer : List ℕ} {n : ℕ} {p r : Progress} {t : FourTables}
+      → At tokens before outcome (header w first outer n 0) p t → ahead (drop (p .at) tokens) ≡ 4 → 0 < n → suc (length outer) < 8
+      → Moved p 1 0 0 0 0 0 r → At tokens before outcome (header w first (n ∷ outer) 0 0) r t
+  unfolding sortNumber
+  over-level {w} {first} {outer} {n} {p} {r} {t} a e some l v =
+      step-on Sort.loop pass a e (v .at) (λ rows m. step-deeper 8 w first outer n rows some l) (λ rows m. matches-pass before rows p r t m v)
+
+  pub over-header-stop : {w : Where} {first : ℕ} {outer : List ℕ} {n s : ℕ} {p r : Progress} {t : FourTables}
+      → At tokens before outcome (header w first outer n s) p t → ahead (drop (p .at) tokens) ≡ 5 → 0 < n → s < length outer
+      → Moved p 1 0 0 0 0 0 r → At tokens before outcome (header w first outer n (suc s)) r t
+  unfolding step headerStep sortNumber
+  over-header-stop {w} {first} {outer} {n} {s} {p} {r} {t} a e some l v =
+      step-on Sort.stop pass a e (v .at) (λ rows m. rw (lt-ltb 0 n some, lt-ltb s (length outer) l)) (λ rows m. matches-pass before rows p r t m v)
+
+  -- where a header ends with a value, level 1 begins
+  pub begins : {w : Where} {first : ℕ} {outer : List ℕ} {n s m : ℕ} {inner : List ℕ} {p : Progress} {t : FourTables}
+      → At tokens before outcome (header w first outer n s) p t → ahead (drop (p .at) tokens) ≡ 7 → 0 < n → reverseAux outer (n ∷ []) ≡ m ∷ inner
+      → At tokens before outcome (body w [] (level m first 0) inner 0) p t
+  unfolding sortNumber
+  begins {w} {first} {outer} {n} {s} {m} {inner} {p} a e some q =
+      alike a (λ rows. run-ahead 8 (body w [] (level m first 0) inner 0) (drop (p .at) tokens) rows Sort.value e
+      ∙ ap (onward 8 (drop 1 (drop (p .at) tokens)) rows) (sym (step-begin 8 w first outer n s m inner rows some q))
+      ∙ sym (run-ahead 8 (header w first outer n s) (drop (p .at) tokens) rows Sort.value e))
+
+  -- the values of a packet
+  pub over-first : {w : Where} {outer : List Level} {n first k number parent f : ℕ} {inner : List ℕ} {p q r : Progress} {t : FourTables} {packets values : List ℕ}
+      → At tokens before outcome (body w outer (level n first k) inner 0) p t → ahead (drop (p .at) tokens) ≡ 7 → suc (length outer) ≡ number
+      → parentOf outer ≡ parent → f ≡ 0
+      → Put (p .loops ∷ number ∷ parent ∷ []) (p .packets) (t .packets) packets (Moved p 0 0 0 0 1 0 q)
+      → Put ((first + f) ∷ q .packets ∷ (q .at + 1) ∷ []) (q .values) (t .values) values (Moved q 1 0 0 0 0 1 r)
+      → At tokens before outcome (partly w outer (level n first (q .packets)) inner (f + 1)) r (tables (t .sets) (t .names) packets values)
+  unfolding step bodyStep valueAt fill sortNumber partly
+  over-first {w} {outer} {n} {first} {k} {number} {parent} {f} {inner} {p} {q} {r} {t} a e d u z g h =
+      let put : Rows → Rows = λ rows. putPacket (rows .loops) number parent rows in
+      step-on Sort.value (λ rows. putValue (first + f) (q .packets) (put rows)) a e (omega (arith, g .counted .at, h .counted .at))
+      (λ rows m. rw (z, d, u)
+      (ap (λ x. go (partly w outer (level n first x) inner 1) (putValue (first + 0) x (put rows))) (omega (arith, m .packets, g .counted .packets))))
+      (λ rows m. matches-value before (put rows) q r _ (matches-packet before rows p q t m number parent _ g) (first + f) (q .packets) _ h)
+
+  module _ (w : Where) (outer : List Level) (l : Level) (inner : List ℕ) where
+    pub over-value : (f : ℕ) {p r : Progress} {t : FourTables} {values : List ℕ} → At tokens before outcome (partly w outer l inner f) p t
+        → 0 < f → f < l .names → ahead (drop (p .at) tokens) ≡ 7
+        → Put ((l .first + f) ∷ l .packet ∷ (p .at + 1) ∷ []) (p .values) (t .values) values (Moved p 1 0 0 0 0 1 r)
+        → At tokens before outcome (partly w outer l inner (f + 1)) r (tables (t .sets) (t .names) (t .packets) values)
+    unfolding step bodyStep valueAt fill sortNumber partly
+    over-value zero a some room e g = absurd (omega arith)
+    over-value (suc f) {p} {r} {t} a some room e g =
+        rw (add-one (suc f))
+        (step-on Sort.value (putValue (l .first + suc f) (l .packet)) (rw (lt-ltb (suc f) (l .names) room) at a) e (g .counted .at) (λ rows m. refl)
+        (λ rows m. matches-value before rows p r t m (l .first + suc f) (l .packet) _ g))
+
+    -- a packet that has all its values
+    pub full : (f : ℕ) {p : Progress} {t : FourTables} → At tokens before outcome (partly w outer l inner f) p t → l .names ≤ f
+        → At tokens before outcome (filled w outer l inner) p t
+    unfolding partly
+    full f a h = rw (le-ltb f (l .names) h) at a
+
+    -- no value where the packet is not full
+    pub not-full : (f : ℕ) {p r : Progress} {t u : FourTables} {to : State} (sort : ℕ) → At tokens before outcome (partly w outer l inner f) p t
+        → 0 < f → f < l .names → sort ≡ ahead (drop (p .at) tokens) → (sort ≡ 7 → ⊥) → Misplaced p 10 sort r
+        → Comes tokens before outcome to r u
+    unfolding partly
+    not-full zero sort a some room e h q = absurd (omega arith)
+    not-full (suc f) {p} sort a some room e h q =
+        refused 10 sort (omega arith) (rw (lt-ltb (suc f) (l .names) room) at a) e (partial-refuses w outer l inner f (drop (p .at) tokens) (λ x. h (e ∙ x))) q
+
+  -- `stop_` closes an inner level
+  pub over-stop : {w : Where} {o l : Level} {outer : List Level} {inner : List ℕ} {p r : Progress} {t : FourTables}
+      → At tokens before outcome (body w (o ∷ outer) l inner 0) p t → ahead (drop (p .at) tokens) ≡ 5 → Moved p 1 0 0 0 0 0 r
+      → At tokens before outcome (body w outer o (l .names ∷ inner) 0) r t
+  unfolding step bodyStep noValueAt noValue sortNumber
+  over-stop {p = p} {r = r} {t = t} a e v = step-on Sort.stop pass a e (v .at) (λ rows m. refl) (λ rows m. matches-pass before rows p r t m v)
+
+  -- between packets, the number of the one before is not read
+  pub unpacked : {w : Where} {outer : List Level} {n first k : ℕ} {inner : List ℕ} {p : Progress} {t : FourTables}
+      → At tokens before outcome (body w outer (level n first k) inner 0) p t → At tokens before outcome (body w outer (level n first 0) inner 0) p t
+  unpacked {w} {outer} {n} {first} {k} {inner} {p} a = alike a (λ rows. any-packet 8 w outer n first 0 k inner (drop (p .at) tokens) rows)
+
+  -- after the packets of level 1, where no value comes
+  pub leaves : {w : Where} {l : Level} {inner : List ℕ} {p : Progress} {t : FourTables} → At tokens before outcome (body w [] l inner 0) p t
+      → (ahead (drop (p .at) tokens) ≡ 7 → ⊥) → At tokens before outcome (within w) p t
+  leaves {w} {l} {inner} {p} a h = alike a (λ rows. sym (after-loop 8 w l inner (drop (p .at) tokens) rows (no-value (drop (p .at) tokens) h)))
+
+  -- in a block where no entry and no frame comes: as before a block
+  pub closes : {b : ℕ} {p : Progress} {t : FourTables} → At tokens before outcome (within (inBlock b)) p t → (ahead (drop (p .at) tokens) ≡ 2 → ⊥)
+      → (ahead (drop (p .at) tokens) ≡ 4 → ⊥) → (ahead (drop (p .at) tokens) ≡ 6 → ⊥) → At tokens before outcome start p t
+  closes {b} {p} a f l n = alike a (λ rows. block-closed b (drop (p .at) tokens) rows f l n)
+
+  -- the end before a block
+  pub accepts : {p : Progress} {t : FourTables} → (a : At tokens before outcome start p t) → ahead (drop (p .at) tokens) ≡ 0 → good (a .rows) ≡ outcome
+  unfolding endRun
+  accepts {p} a e = sym (run-end 8 start (drop (p .at) tokens) (a .rows) e) ∙ a .left
+
+  -- refused, so that the whole read is
+  pub whole-refused : (count : ℕ) {st : State} {p : Progress} {t : FourTables} → (p .refusal ≡ 0 → ⊥) → Comes tokens before outcome st p t
+      → Whole count outcome before p t
+  whole-refused count n k = record { accepts = λ e. absurd (n e); refuses = k .ends }

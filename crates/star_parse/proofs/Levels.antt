@@ -1,0 +1,71 @@
+-- The levels of a loop as the reader's state has them: what is inside the current level begins with the next one of the array.
+use mathlib.Core.Path.{_≡_, refl, sym, ap, _∙_}
+use mathlib.Core.List.{List, [], _∷_, reverseAux}
+use Prim.Native.Nat.{ℕ, suc, _+_, _<_}
+use native.Mathlib.Numerals.{add-one}
+use native.Mathlib.Omega.{arith}
+use lib.ListN.{length, take, drop, drop-of-length-le}
+use lib.Seq.{drop-cons, getD-take, length-take-le}
+use Rattle.star_grammar.specs.Machine.{Where, Level, parentOf, body, filled}
+use Rattle.star_parse.specs.Reader.{InLoop, Outermost, Header, Around, innerOf, levelOf, deeperOf, atLevel}
+use Rattle.star_parse.specs.declared.packets.LoopState.{LoopState}
+
+module _ (s : LoopState) (h : InLoop s) where
+  levels-length : length (take (s .levels) (s .counts)) ≡ s .levels
+  levels-length = length-take-le (s .levels) (s .counts) (omega (arith, h .size, h .limit))
+
+  -- the last level
+  pub inner-none : s .level + 1 ≡ s .levels → innerOf s ≡ []
+  unfolding innerOf
+  inner-none e = drop-of-length-le (take (s .levels) (s .counts)) {i = suc (s .level)} (rw levels-length (omega (arith, e)))
+
+  -- after a packet's values: the last level again
+  pub filled-last : (w : Where) (outer : List Level) (packet : ℕ) → s .level + 1 ≡ s .levels
+      → filled w outer (levelOf s packet) (innerOf s) ≡ body w outer (levelOf s packet) (innerOf s) 0
+  unfolding filled
+  filled-last w outer packet e = rw (inner-none e)
+
+  -- level 1, where a header ends
+  pub outermost : (outer : List ℕ) (n : ℕ) → Outermost s → Header s outer n → reverseAux outer (n ∷ []) ≡ levelOf s 0 .names ∷ innerOf s
+  unfolding innerOf
+  outermost outer n o e =
+      e .counts
+      ∙ ap (λ k. drop k (take (s .levels) (s .counts))) (sym (o .level))
+      ∙ drop-cons (take (s .levels) (s .counts)) (s .level) 0 (rw levels-length (h .some))
+      ∙ ap (λ k. k ∷ drop (suc (s .level)) (take (s .levels) (s .counts))) (getD-take (s .levels) (s .counts) (s .level) 0 (h .some))
+
+  pub around-none : Outermost s → Around s []
+  unfolding parentOf
+  around-none o = record { depth = sym (o .level); parent = sym (o .parent) }
+
+  -- the level inside
+  module _ (packet : ℕ) (l : s .level + 1 < s .levels) (d : LoopState) (e : d ≡ deeperOf s packet) where
+    pub deeper-in : InLoop d
+    deeper-in = rw e (record {
+      size = h .size;
+      some = l;
+      limit = h .limit;
+      few = h .few;
+      first = omega (arith, h .first, h .few (s .level));
+    })
+
+    -- the next level, and those inside it
+    pub inner-some : levelOf d 0 .names ∷ innerOf d ≡ innerOf s
+    unfolding innerOf
+    inner-some =
+        rw (e, add-one (s .level))
+        (sym (drop-cons (take (s .levels) (s .counts)) (suc (s .level)) 0 (rw levels-length (omega (arith, l)))
+        ∙ ap (λ n. n ∷ drop (suc (suc (s .level))) (take (s .levels) (s .counts)))
+        (getD-take (s .levels) (s .counts) (suc (s .level)) 0 (omega (arith, l)))))
+
+    -- after a packet's values: before the packets of the level inside
+    pub filled-deeper : (w : Where) (outer : List Level)
+        → filled w outer (levelOf s packet) (innerOf s) ≡ atLevel w (levelOf s packet ∷ outer) d
+    unfolding filled
+    filled-deeper w outer =
+        ap (filled w outer (levelOf s packet)) (sym inner-some)
+        ∙ ap (λ n. body w (levelOf s packet ∷ outer) (record { names = levelOf d 0 .names; first = n; packet = 0 }) (innerOf d) 0) (sym (ap (λ x. x .first) e))
+
+    pub around-deeper : (outer : List Level) → Around s outer → Around d (levelOf s packet ∷ outer)
+    unfolding parentOf
+    around-deeper outer a = rw e (record { depth = omega (arith, a .depth); parent = refl })

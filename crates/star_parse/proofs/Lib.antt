@@ -1,0 +1,7 @@
+pub mod Ahead
+pub mod Counted
+pub mod Going
+pub mod Headers
+pub mod Levels
+pub mod RunKinds
+pub mod Refusing

@@ -1,0 +1,229 @@
+-- What the reader's own functions say of each other: how far they have come in a run of the machine. An aid of the proofs.
+use mathlib.Core.Path.{_≡_}
+use mathlib.Core.Bool.{cond}
+use mathlib.Core.List.{List, [], _∷_, reverseAux}
+use Prim.Native.Nat.{ℕ, suc, _+_, _*_, _≤_, _<_}
+use lib.Dec.{eqb, ltb}
+use lib.ListN.{length, getD, take, drop}
+use Rattle.star_lex.specs.Tokens.{Token}
+use Rattle.star_rows.specs.Rows.{putRow}
+use Rattle.star_grammar.specs.Tables.{Rows}
+use Rattle.star_grammar.specs.Machine.{Sort, sortOf, Where, Level, parentOf, State, body, filled, Run, bad, good, run}
+use Rattle.star_parse.specs.Parsed.{kindTokens, FourTables, Stored}
+use Rattle.star_parse.specs.declared.progress.Progress.{Progress}
+use Rattle.star_parse.specs.declared.packets.LoopState.{LoopState}
+
+-- the number of a sort: its kind, 7 for values
+unfoldable pub sortNumber : Sort → ℕ
+sortNumber Sort.block = 1
+sortNumber Sort.frame = 2
+sortNumber Sort.frameEnd = 3
+sortNumber Sort.loop = 4
+sortNumber Sort.stop = 5
+sortNumber Sort.name = 6
+sortNumber Sort.value = 7
+sortNumber Sort.global = 12
+
+-- the number of the sort of the next token, 0 at the end
+unfoldable pub ahead : List Token → ℕ
+ahead [] = 0
+ahead (t ∷ ts) = sortNumber (sortOf (t .kind))
+
+-- the number of the sort of the token at a place of a table
+abbrev pub sortAt : (count : ℕ) → List ℕ → (at : ℕ) → ℕ
+sortAt count words at = ahead (drop at (kindTokens count words))
+
+-- this is the number of the sort at a place, and a token stands there unless it is 0
+pub record SortAt (count : ℕ) (tokens : List ℕ) (at sort : ℕ) : Type 0 where
+  pub is : sort ≡ sortAt count tokens at
+  pub token : 0 < sort → at < count
+
+-- a token of this sort stands at a place
+pub record Ahead (count : ℕ) (tokens : List ℕ) (at sort : ℕ) : Type 0 where
+  pub is : sortAt count tokens at ≡ sort
+  pub token : at < count
+
+-- no entry begins at a place
+pub record NoEntry (count : ℕ) (tokens : List ℕ) (at : ℕ) : Type 0 where
+  pub loop : sortAt count tokens at ≡ 4 → ⊥
+  pub name : sortAt count tokens at ≡ 6 → ⊥
+
+-- `global_` is 12 everywhere
+unfoldable pub refusalOf : (number sort : ℕ) → ℕ
+refusalOf number sort = cond (eqb sort 12) 12 number
+
+-- before the first token
+pub record Fresh (r : Progress) : Type 0 where
+  pub refusal : r .refusal ≡ 0
+  pub at : r .at ≡ 0
+  pub loops : r .loops ≡ 0
+  pub sets : r .sets ≡ 0
+  pub names : r .names ≡ 0
+  pub packets : r .packets ≡ 0
+  pub values : r .values ≡ 0
+
+-- the same progress but for so many tokens, loops and rows more
+pub record Moved (p : Progress) (token newLoop newSet newName newPacket newValue : ℕ) (r : Progress) : Type 0 where
+  pub refusal : r .refusal ≡ p .refusal
+  pub at : r .at ≡ p .at + token
+  pub loops : r .loops ≡ p .loops + newLoop
+  pub sets : r .sets ≡ p .sets + newSet
+  pub names : r .names ≡ p .names + newName
+  pub packets : r .packets ≡ p .packets + newPacket
+  pub values : r .values ≡ p .values + newValue
+
+-- the same progress but for a refusal at the next token
+pub record Misplaced (p : Progress) (number sort : ℕ) (r : Progress) : Type 0 where
+  pub refusal : r .refusal ≡ refusalOf number sort
+  pub at : r .at ≡ p .at
+  pub loops : r .loops ≡ p .loops
+  pub sets : r .sets ≡ p .sets
+  pub names : r .names ≡ p .names
+  pub packets : r .packets ≡ p .packets
+  pub values : r .values ≡ p .values
+
+-- a row more in a table, as its count says, and the progress that counts it
+pub record Put (row : List ℕ) (count : ℕ) (before after : List ℕ) (Counted : Type 0) : Type 0 where
+  pub table : after ≡ putRow row count before
+  pub counted : Counted
+
+-- a token or a row more can be counted
+pub record Room (p : Progress) : Type 0 where
+  pub at : p .at ≤ 1048577
+  pub loops : p .loops ≤ 1048577
+  pub sets : p .sets ≤ 1048577
+  pub names : p .names ≤ 1048577
+  pub packets : p .packets ≤ 1048577
+  pub values : p .values ≤ 1048577
+
+-- the token table has its rows, and no count is larger than the tokens passed
+pub record Bounds (count : ℕ) (tokens : List ℕ) (p : Progress) : Type 0 where
+  pub rows : count * 3 ≤ length tokens
+  pub few : count ≤ 1048576
+  pub at : p .at ≤ count
+  pub loops : p .loops ≤ p .at
+  pub sets : p .sets ≤ p .at
+  pub names : p .names ≤ p .at
+  pub packets : p .packets ≤ p .at
+  pub values : p .values ≤ p .at
+
+-- a read that goes on: no refusal yet
+pub record Ready (count : ℕ) (tokens : List ℕ) (p : Progress) : Type 0 where
+  pub going : p .refusal ≡ 0
+  pub bounds : Bounds count tokens p
+
+-- the progress counts these rows, and the tables hold them
+pub record Matches (before : FourTables) (rows : Rows) (p : Progress) (t : FourTables) : Type 0 where
+  pub at : p .at ≡ rows .tokens
+  pub loops : p .loops ≡ rows .loops
+  pub sets : p .sets ≡ length (rows .sets)
+  pub names : p .names ≡ length (rows .names)
+  pub packets : p .packets ≡ length (rows .packets)
+  pub values : p .values ≡ length (rows .values)
+  pub tables : Stored before rows t
+
+-- a read of these tokens into these tables, with this outcome, has come to a state: the run from here on has that outcome
+pub record At (tokens : List Token) (before : FourTables) (outcome : Run) (st : State) (p : Progress) (t : FourTables) : Type 0 where
+  pub rows : Rows
+  pub matches : Matches before rows p t
+  pub left : run 8 st (drop (p .at) tokens) rows ≡ outcome
+
+-- it has come to a state, or the outcome is the refusal
+pub record Comes (tokens : List Token) (before : FourTables) (outcome : Run) (st : State) (p : Progress) (t : FourTables) : Type 0 where
+  pub goes : p .refusal ≡ 0 → At tokens before outcome st p t
+  pub ends : (p .refusal ≡ 0 → ⊥) → outcome ≡ bad (p .refusal) (p .at)
+
+-- every read that is at one state comes to another, or is refused
+abbrev pub Leads : (count : ℕ) (tokens : List ℕ) → (from : State) → Progress → FourTables → (to : State) → Progress → FourTables → Type 0
+Leads count tokens from p t to r u =
+    (before : FourTables) (outcome : Run) → At (kindTokens count tokens) before outcome from p t → Comes (kindTokens count tokens) before outcome to r u
+
+-- every read that is at one state comes to another
+abbrev pub Passes : (count : ℕ) (tokens : List ℕ) → (from : State) → Progress → FourTables → (to : State) → Progress → FourTables → Type 0
+Passes count tokens from p t to r u =
+    (before : FourTables) (outcome : Run) → At (kindTokens count tokens) before outcome from p t → At (kindTokens count tokens) before outcome to r u
+
+-- what reading on answers: counts in bounds, at least so many tokens passed, and where reads come to
+pub record Onward (count : ℕ) (tokens : List ℕ) (least : ℕ) (r : Progress) (Goes : Type 0) : Type 0 where
+  pub bounds : Bounds count tokens r
+  pub further : least ≤ r .at
+  pub goes : Goes
+
+-- a read of all tokens is accepted with the rows counted
+pub record Accepts (count : ℕ) (outcome : Run) (before : FourTables) (r : Progress) (t : FourTables) : Type 0 where
+  pub rows : Rows
+  pub matches : Matches before rows r t
+  pub all : r .at ≡ count
+  pub is : outcome ≡ good rows
+
+-- what reading a whole file answers: it is accepted, or the outcome is the refusal
+pub record Whole (count : ℕ) (outcome : Run) (before : FourTables) (r : Progress) (t : FourTables) : Type 0 where
+  pub accepts : r .refusal ≡ 0 → Accepts count outcome before r t
+  pub refuses : (r .refusal ≡ 0 → ⊥) → outcome ≡ bad (r .refusal) (r .at)
+
+-- what reading the names of a level answers: no name comes next
+pub record Names (count : ℕ) (tokens : List ℕ) (p r : Progress) (Goes : Type 0) : Type 0 where
+  pub ready : Ready count tokens r
+  pub further : p .at ≤ r .at
+  pub counted : p .names ≤ r .names
+  pub last : sortAt count tokens (r .at) ≡ 6 → ⊥
+  pub goes : Goes
+
+-- what reading header stops, at most so many, answers: no `stop_` comes next, or there were as many
+pub record Stops (count : ℕ) (tokens : List ℕ) (inner : ℕ) (p r : Progress) (Goes : Type 0) : Type 0 where
+  pub ready : Ready count tokens r
+  pub further : p .at ≤ r .at
+  pub last : sortAt count tokens (r .at) ≡ 5 → p .at + inner ≤ r .at
+  pub goes : Goes
+
+-- a state of a loop: the current level is one of at most 8, and the row numbers fit
+pub record InLoop (s : LoopState) : Type 0 where
+  pub size : length (s .counts) ≡ 8
+  pub some : s .level < s .levels
+  pub limit : s .levels ≤ 8
+  pub few : (i : ℕ) → getD (s .counts) i 0 ≤ 1048576
+  pub first : s .first ≤ 1048577 + 1048576 * s .level
+
+-- level 1, with no packet begun
+pub record Outermost (s : LoopState) : Type 0 where
+  pub level : s .level ≡ 0
+  pub filled : s .filled ≡ 0
+  pub parent : s .parent ≡ 0
+
+-- the header of a loop with these levels, innermost first: those before the last and the last
+pub record Header (s : LoopState) (outer : List ℕ) (n : ℕ) : Type 0 where
+  pub some : 0 < n
+  pub depth : length outer + 1 ≡ s .levels
+  pub counts : reverseAux outer (n ∷ []) ≡ take (s .levels) (s .counts)
+
+-- the numbers of names of the levels inside the current one
+unfoldable pub innerOf : LoopState → List ℕ
+innerOf s = drop (suc (s .level)) (take (s .levels) (s .counts))
+
+-- the current level, with the packet begun
+abbrev pub levelOf : LoopState → (packet : ℕ) → Level
+levelOf s packet = record { names = getD (s .counts) (s .level) 0; first = s .first; packet = packet }
+
+-- the level inside, in a packet of this number
+abbrev pub deeperOf : LoopState → (packet : ℕ) → LoopState
+deeperOf s packet = record {
+  counts = s .counts;
+  levels = s .levels;
+  level = s .level + 1;
+  filled = 0;
+  first = s .first + getD (s .counts) (s .level) 0;
+  parent = packet;
+}
+
+-- the levels around the current one
+pub record Around (s : LoopState) (outer : List Level) : Type 0 where
+  pub depth : length outer ≡ s .level
+  pub parent : parentOf outer ≡ s .parent
+
+-- no packet of the current level is begun
+abbrev pub atLevel : Where → List Level → LoopState → State
+atLevel w outer s = body w outer (levelOf s 0) (innerOf s) 0
+
+-- a packet that has so many values, and some: all of them, or not
+unfoldable pub partly : Where → List Level → Level → List ℕ → (values : ℕ) → State
+partly w outer l inner f = cond (ltb f (l .names)) (body w outer l inner f) (filled w outer l inner)
