@@ -7,7 +7,7 @@ use native.Mathlib.Omega.{arith}
 use borrow.Author.Tests.{lt-ltb, le-ltb, le-leb, lt-leb, leb-true, ltb-true}
 use lib.Dec.{leb, ltb}
 use lib.ListN.{length}
-use Rattle.star_text.specs.Bytes.{firstRefused}
+use Rattle.star_text.specs.Bytes.{mostBytes, firstRefused}
 use Rattle.star_rows.proofs.Stored.{room}
 use Rattle.star_lex.specs.Tokens.{Placed}
 use Rattle.star_lex.specs.Split.{Split, refused, accepted, split, tokensOf}
@@ -17,17 +17,17 @@ use Rattle.star_lex.proofs.Cases.{impossible, cond-cases}
 use Rattle.star_lex.proofs.Splitting.{Faulty, split-refused}
 
 module _ (file : List ℕ) (words : ℕ) where
-  pub tokens-too-long : 1048576 < length file → tokensIn file words ≡ refused 1 0
+  pub tokens-too-long : mostBytes < length file → tokensIn file words ≡ refused 1 0
   unfolding tokensIn
-  tokens-too-long h = rw (lt-leb (length file) 1048576 h)
+  tokens-too-long h = rw (lt-leb (length file) mostBytes h)
 
-  pub tokens-refused-byte : length file ≤ 1048576 → firstRefused file < length file → tokensIn file words ≡ refused 2 (firstRefused file)
+  pub tokens-refused-byte : length file ≤ mostBytes → firstRefused file < length file → tokensIn file words ≡ refused 2 (firstRefused file)
   unfolding tokensIn tokensOf fitting
-  tokens-refused-byte h k = rw (le-leb (length file) 1048576 h, lt-ltb (firstRefused file) (length file) k)
+  tokens-refused-byte h k = rw (le-leb (length file) mostBytes h, lt-ltb (firstRefused file) (length file) k)
 
-  pub tokens-split : length file ≤ 1048576 → length file ≤ firstRefused file → tokensIn file words ≡ fitting words (split 0 true 0 file)
+  pub tokens-split : length file ≤ mostBytes → length file ≤ firstRefused file → tokensIn file words ≡ fitting words (split 0 true 0 file)
   unfolding tokensIn tokensOf
-  tokens-split h k = rw (le-leb (length file) 1048576 h, le-ltb (firstRefused file) (length file) k)
+  tokens-split h k = rw (le-leb (length file) mostBytes h, le-ltb (firstRefused file) (length file) k)
 
 -- a file that does not split is refused with 2 to 6, at one of its bytes
 pub tokens-faulty : (file : List ℕ) (n place : ℕ) → tokensOf file ≡ refused n place → (2 ≤ n) × (n ≤ 6) × (place < length file)
@@ -70,7 +70,7 @@ fitting-room words ps h = rw (room 3 (length ps) words (omega arith), le-leb (le
 pub tokens-accepted : (file : List ℕ) (words : ℕ) (ps : List Placed) → tokensIn file words ≡ accepted ps → tokensOf file ≡ accepted ps
 unfolding tokensIn fitting
 tokens-accepted file words ps e =
-    cond-cases (leb (length file) 1048576) _ _ (accepted ps) e (λ d. fits (tokensOf file)) (λ d h. impossible cc)
+    cond-cases (leb (length file) mostBytes) _ _ (accepted ps) e (λ d. fits (tokensOf file)) (λ d h. impossible cc)
   where
     fits : (s : Split) → fitting words s ≡ accepted ps → s ≡ accepted ps
     fits (refused n place) h = impossible cc
@@ -93,7 +93,7 @@ fitting-number file words n place (accepted ps) d e z =
 pub in-number : (file : List ℕ) (words n place : ℕ) → tokensIn file words ≡ refused n place → n ≡ 0 → ⊥
 unfolding tokensIn
 in-number file words n place e z =
-    cond-cases (leb (length file) 1048576) _ _ _ e
+    cond-cases (leb (length file) mostBytes) _ _ _ e
     (λ q h. fitting-number file words n place (tokensOf file) refl h z)
     (λ q h. let k : 1 ≡ n = cc in omega arith)
 
@@ -113,9 +113,9 @@ fitting-within words (refused n place) ps e = impossible cc
 fitting-within words (accepted qs) ps e =
     cond-cases (leb (length qs * 3) words) _ _ _ e (λ q h. let k : qs ≡ ps = cc in rw (← k) (leb-true _ _ q)) (λ q h. impossible cc)
 
-pub in-fits : (file : List ℕ) (words : ℕ) (ps : List Placed) → tokensIn file words ≡ accepted ps → (length file ≤ 1048576) × (length ps * 3 ≤ words)
+pub in-fits : (file : List ℕ) (words : ℕ) (ps : List Placed) → tokensIn file words ≡ accepted ps → (length file ≤ mostBytes) × (length ps * 3 ≤ words)
 unfolding tokensIn
 in-fits file words ps e =
-    cond-cases (leb (length file) 1048576) _ _ _ e
+    cond-cases (leb (length file) mostBytes) _ _ _ e
     (λ q h. (leb-true _ _ q, fitting-within words (tokensOf file) ps h))
     (λ q h. impossible cc)

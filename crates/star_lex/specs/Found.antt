@@ -5,6 +5,7 @@ use mathlib.Core.Option.{Option, none, some}
 use Prim.Native.Nat.{ℕ, _+_, _*_}
 use lib.Dec.{leb}
 use lib.ListN.{length, replicate}
+use Rattle.star_text.specs.Bytes.{mostBytes}
 use Rattle.star_rows.specs.Rows.{holding}
 use Rattle.star_lex.specs.Tokens.{opening, tokenRow}
 use Rattle.star_lex.specs.Split.{Lexeme, gap, token, faulty, Split, refused, accepted, tokensOf}
@@ -20,7 +21,7 @@ fitting words (refused n place) = refused n place
 fitting words (accepted ps) = cond (leb (length ps * 3) words) (accepted ps) (refused 7 1)
 
 unfoldable pub tokensIn : List ℕ → (words : ℕ) → Split
-tokensIn file words = cond (leb (length file) 1048576) (fitting words (tokensOf file)) (refused 1 0)
+tokensIn file words = cond (leb (length file) mostBytes) (fitting words (tokensOf file)) (refused 1 0)
 
 -- refusal, place and number of tokens
 unfoldable pub answerOf : Split → Tokens

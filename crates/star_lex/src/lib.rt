@@ -10,14 +10,11 @@ ghost use lib.ListN.{length, getD, drop, replicate};
 ghost use Rattle.star_rows.specs.Rows.{stored};
 ghost use mathlib.Core.Bool.{true, false, _&&_};
 ghost use lib.Dec.{eqb};
-ghost use Rattle.star_text.specs.Bytes.{Classes, isWhite};
+ghost use Rattle.star_text.specs.Bytes.{mostBytes, Classes, isWhite};
 ghost use Rattle.star_lex.specs.Tokens.{Placed, tokenRow, opening};
 ghost use Rattle.star_lex.specs.Split.{refused, accepted, quoted, field, fieldLexeme, quotedLexeme, wordFrom, split as Split·split, lexeme as Split·lexeme};
 ghost use Rattle.star_lex.specs.Found.{tokensIn, answerOf, tableOf, foundAt};
 ghost use Rattle.star_lex.specs.Table.{contentIn};
-
-// The most bytes that a file may have.
-const LIMIT: usize = 1048576;
 
 // The classes of bytes that white space and line ends begin with.
 const BLANK: u8 = 2;
@@ -139,7 +136,7 @@ fn lexeme(classes: &[u8; 256], file: &[u8], at: usize, line: bool) -> Found
 
 // The tokens of a file: rows that fit are written, and all are counted.
 fn split(classes: &[u8; 256], file: &[u8], table: &mut [u32]) -> Tokens
-    requires { ⌜ length (now file) ≤ 1048576 ⌝ }
+    requires { ⌜ length (now file) ≤ mostBytes ⌝ }
     requires { ⌜ Classes (now classes) ⌝ }
     ensures { λ r. ⌜ r ≡ answerOf (Split·split 0 true 0 (now (file .entry))) ⌝ }
     ensures { λ _. ⌜ ((ps : List Placed) → Split·split 0 true 0 (now (file .entry)) ≡ accepted ps
@@ -199,7 +196,7 @@ pub fn read_tokens(file: &[u8], table: &mut [u32]) -> Tokens
     ensures { λ r. ⌜ r ≡ answerOf (tokensIn (now (file .entry)) (length (now (table .entry)))) ⌝ }
     ensures { λ _. ⌜ now (table .exit) ≡ tableOf (tokensIn (now (file .entry)) (length (now (table .entry)))) (length (now (table .entry))) ⌝ }
 {
-    if LIMIT < file.len() {
+    if star_text::MOST_BYTES < file.len() {
         return refuse(table, 1, 0);
     }
     let classes = star_text::class_table();

@@ -8,6 +8,7 @@ use native.Mathlib.Omega.{arith}
 use lib.Dec.{eqb}
 use lib.ListN.{length, getD, take, length-append, length-take, length-drop}
 use lib.Seq.{take-suc, take-all}
+use Rattle.star_text.specs.Bytes.{mostBytes}
 use Rattle.star_lex.specs.Tokens.{Token}
 use Rattle.star_lex.specs.Table.{contentIn}
 use Rattle.star_unique.specs.Holds.{Holds, fileTokens, tokenAt}
@@ -67,7 +68,7 @@ line-length kind content = byTest (eqb kind 1)
 -- one token more of a table, by its kind and content
 pub record Next (file : List ℕ) (n kind : ℕ) (content : List ℕ) : Type 0 where
   pub lines : codeLines (take (n + 1) (fileTokens file)) ≡ codeLines (take n (fileTokens file)) ++ codeLine kind content
-  pub small : length content ≤ 1048576
+  pub small : length content ≤ mostBytes
 
 module _ (file words : List ℕ) (count : ℕ) (h : Holds file words count) where
   pub lines-all : (n : ℕ) → count ≤ n → codeLines (take n (fileTokens file)) ≡ codeLines (fileTokens file)

@@ -9,6 +9,7 @@ use lib.Dec.{eqb}
 use lib.ListN.{length, getD, take, set, replicate, length-set, length-reverseAux}
 use lib.Seq.{length-take-le, take-suc-set, getD-set-same, getD-set-other}
 use borrow.Author.Tests.{eqb-true, eqb-false}
+use Rattle.star_text.specs.Bytes.{mostBytes}
 use Rattle.star_parse.specs.Reader.{InLoop, Header}
 use Rattle.star_parse.specs.declared.packets.LoopState.{LoopState}
 
@@ -30,7 +31,7 @@ zeros zero i = refl
 zeros (suc n) zero = refl
 zeros (suc n) (suc i) = zeros n i
 
-pub few-none : (i : ℕ) → getD (replicate 8 0) i 0 ≤ 1048576
+pub few-none : (i : ℕ) → getD (replicate 8 0) i 0 ≤ mostBytes
 few-none i = omega (arith, zeros 8 i)
 
 -- a state of a loop before its first packet
@@ -44,10 +45,10 @@ module _ (counts : List ℕ) (level n : ℕ) (size : length counts ≡ 8) (room 
   pub outers-more : outers (level + 1) (set counts level n) ≡ n ∷ outers level counts
   outers-more = rw (add-one level, take-suc-set counts level n (omega arith)) (reverse-last (take level counts) n [])
 
-  pub few-more : ((i : ℕ) → getD counts i 0 ≤ 1048576) → n ≤ 1048576 → (i : ℕ) → getD (set counts level n) i 0 ≤ 1048576
+  pub few-more : ((i : ℕ) → getD counts i 0 ≤ mostBytes) → n ≤ mostBytes → (i : ℕ) → getD (set counts level n) i 0 ≤ mostBytes
   few-more few h i = go (eqb i level) refl
     where
-      go : (b : Bool) → eqb i level ≡ b → getD (set counts level n) i 0 ≤ 1048576
+      go : (b : Bool) → eqb i level ≡ b → getD (set counts level n) i 0 ≤ mostBytes
       go true e = rw (eqb-true i level e, getD-set-same counts level n 0 (omega arith)) h
       go false e = rw (getD-set-other counts level i n 0 (eqb-false i level e)) (few i)
 
@@ -60,7 +61,7 @@ module _ (counts : List ℕ) (level n : ℕ) (size : length counts ≡ 8) (room 
           ∙ sym (rw (add-one level) (take-suc-set counts level n (omega arith)));
     }
 
-    pub loop-in : ((i : ℕ) → getD counts i 0 ≤ 1048576) → n ≤ 1048576 → first ≤ 1048577 → InLoop (opened (set counts level n) level first)
+    pub loop-in : ((i : ℕ) → getD counts i 0 ≤ mostBytes) → n ≤ mostBytes → first ≤ (mostBytes + 1) → InLoop (opened (set counts level n) level first)
     loop-in few h l = record {
       size = length-set counts level n ∙ size;
       some = omega arith;

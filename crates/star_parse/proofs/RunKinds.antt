@@ -8,6 +8,7 @@ use borrow.Author.Tests.{leb-true, le-leb}
 use lib.Dec.{leb}
 use lib.ListN.{length, getD, drop}
 use lib.Seq.{getD-drop}
+use Rattle.star_text.specs.Bytes.{mostBytes}
 use Rattle.star_lex.specs.Tokens.{Token, Placed, tokenRow}
 use Rattle.star_rows.specs.Rows.{holding}
 use Rattle.star_grammar.specs.Tables.{Rows, noRows}
@@ -67,13 +68,13 @@ kind-at (suc n) words (suc at) d h =
     kind-at n (drop 3 words) at d (omega arith) ∙ getD-drop 3 words (at * 3) 0 ∙ ap (λ k. getD words k 0) (omega arith)
 
 -- a table that has the rows
-pub has-rows-fits : (count words : ℕ) → hasRows count words ≡ true → (count * 3 ≤ words) × (count ≤ 1048576)
+pub has-rows-fits : (count words : ℕ) → hasRows count words ≡ true → (count * 3 ≤ words) × (count ≤ mostBytes)
 unfolding hasRows
 has-rows-fits count words e =
-    let (a, b) = (and-eq-true-iff (leb (count * 3) words) (leb count 1048576)) .0 e in
+    let (a, b) = (and-eq-true-iff (leb (count * 3) words) (leb count mostBytes)) .0 e in
     (leb-true _ _ a, leb-true _ _ b)
 
-pub rows-run : (count : ℕ) (words : List ℕ) → count * 3 ≤ length words → count ≤ 1048576
+pub rows-run : (count : ℕ) (words : List ℕ) → count * 3 ≤ length words → count ≤ mostBytes
     → rowsRun count words ≡ run 8 start (kindTokens count words) noRows
 unfolding rowsRun hasRows
-rows-run count words h k = rw (le-leb (count * 3) (length words) h, le-leb count 1048576 k)
+rows-run count words h k = rw (le-leb (count * 3) (length words) h, le-leb count mostBytes k)

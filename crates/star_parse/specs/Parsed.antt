@@ -5,6 +5,7 @@ use mathlib.Core.List.{List, [], _∷_}
 use Prim.Native.Nat.{ℕ, zero, suc, _*_}
 use lib.Dec.{leb}
 use lib.ListN.{length, getD, drop}
+use Rattle.star_text.specs.Bytes.{mostBytes}
 use Rattle.star_lex.specs.Tokens.{Token}
 use Rattle.star_rows.specs.Rows.{stored}
 use Rattle.star_grammar.specs.Tables.{Rows, noRows, setWords, nameWords, packetWords, valueWords}
@@ -18,7 +19,7 @@ kindTokens (suc n) words = record { kind = getD words 0 0; content = [] } ∷ ki
 
 -- a table of so many words has that many rows of tokens, at most one for each byte that a file may have
 unfoldable pub hasRows : (count words : ℕ) → Bool
-hasRows count words = leb (count * 3) words && leb count 1048576
+hasRows count words = leb (count * 3) words && leb count mostBytes
 
 -- the run over the first rows of a table; 14 where it has not that many
 unfoldable pub rowsRun : (count : ℕ) → List ℕ → Run

@@ -5,6 +5,7 @@ use mathlib.Core.List.{List, [], _∷_, reverseAux}
 use Prim.Native.Nat.{ℕ, suc, _+_, _*_, _≤_, _<_}
 use lib.Dec.{eqb, ltb}
 use lib.ListN.{length, getD, take, drop}
+use Rattle.star_text.specs.Bytes.{mostBytes}
 use Rattle.star_lex.specs.Tokens.{Token}
 use Rattle.star_rows.specs.Rows.{putRow}
 use Rattle.star_grammar.specs.Tables.{Rows}
@@ -89,17 +90,17 @@ pub record Put (row : List ℕ) (count : ℕ) (before after : List ℕ) (Counted
 
 -- a token or a row more can be counted
 pub record Room (p : Progress) : Type 0 where
-  pub at : p .at ≤ 1048577
-  pub loops : p .loops ≤ 1048577
-  pub sets : p .sets ≤ 1048577
-  pub names : p .names ≤ 1048577
-  pub packets : p .packets ≤ 1048577
-  pub values : p .values ≤ 1048577
+  pub at : p .at ≤ (mostBytes + 1)
+  pub loops : p .loops ≤ (mostBytes + 1)
+  pub sets : p .sets ≤ (mostBytes + 1)
+  pub names : p .names ≤ (mostBytes + 1)
+  pub packets : p .packets ≤ (mostBytes + 1)
+  pub values : p .values ≤ (mostBytes + 1)
 
 -- the token table has its rows, and no count is larger than the tokens passed
 pub record Bounds (count : ℕ) (tokens : List ℕ) (p : Progress) : Type 0 where
   pub rows : count * 3 ≤ length tokens
-  pub few : count ≤ 1048576
+  pub few : count ≤ mostBytes
   pub at : p .at ≤ count
   pub loops : p .loops ≤ p .at
   pub sets : p .sets ≤ p .at
@@ -181,8 +182,8 @@ pub record InLoop (s : LoopState) : Type 0 where
   pub size : length (s .counts) ≡ 8
   pub some : s .level < s .levels
   pub limit : s .levels ≤ 8
-  pub few : (i : ℕ) → getD (s .counts) i 0 ≤ 1048576
-  pub first : s .first ≤ 1048577 + 1048576 * s .level
+  pub few : (i : ℕ) → getD (s .counts) i 0 ≤ mostBytes
+  pub first : s .first ≤ (mostBytes + 1) + mostBytes * s .level
 
 -- level 1, with no packet begun
 pub record Outermost (s : LoopState) : Type 0 where

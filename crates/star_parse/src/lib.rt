@@ -9,13 +9,11 @@ ghost use mathlib.Core.Bool.{false};
 ghost use mathlib.Core.List.{List};
 ghost use Prim.Native.Nat.{ℕ, _+_, _*_, _≤_};
 ghost use lib.ListN.{length};
+ghost use Rattle.star_text.specs.Bytes.{mostBytes};
 ghost use Rattle.star_grammar.specs.Tables.{noRows};
 ghost use Rattle.star_grammar.specs.Machine.{Where, inBlock, setOf, start, within, run};
 ghost use Rattle.star_parse.specs.Parsed.{kindTokens, tables, hasRows, rowsRun, Refused, Answers};
 ghost use Rattle.star_parse.specs.Reader.{Ahead, NoEntry, Ready, Onward, Leads, Whole};
-
-// The most tokens that a file can have: one for each byte.
-const LIMIT: usize = 1048576;
 
 // What reading the rows answers: refusal, 0 when accepted; how many tokens stand before the bad one, or all of them; and the row counts.
 pub struct Parsed {
@@ -156,7 +154,7 @@ fn read_blocks(
     values: &mut [u32],
 ) -> Progress
     requires { ⌜ count * 3 ≤ length (now tokens) ⌝ }
-    requires { ⌜ count ≤ 1048576 ⌝ }
+    requires { ⌜ count ≤ mostBytes ⌝ }
     ensures { λ r. ⌜ Whole count (run 8 start (kindTokens count (now (tokens .entry))) noRows)
         (tables (now (sets .entry)) (now (names .entry)) (now (packets .entry)) (now (values .entry))) r
         (tables (now (sets .exit)) (now (names .exit)) (now (packets .exit)) (now (values .exit))) ⌝ }
@@ -182,7 +180,7 @@ fn has_rows(count: usize, words: usize) -> bool
     if words / 3 < count {
         return false;
     }
-    count <= LIMIT
+    count <= star_text::MOST_BYTES
 }
 
 // A refusal has no rows.

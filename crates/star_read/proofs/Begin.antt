@@ -5,6 +5,7 @@ use mathlib.Core.List.{List, [], _++_, List·Memᴰ, append-assoc}
 use Prim.Native.Nat.{ℕ, zero, suc, _≤_}
 use native.Mathlib.Omega.{arith}
 use lib.ListN.{length}
+use Rattle.star_text.specs.Bytes.{mostBytes}
 use Rattle.star_lex.specs.Tokens.{Token, Placed, Each}
 use Rattle.star_lex.specs.Split.{tokensOf}
 use Rattle.star_lex.specs.Split as Split
@@ -107,7 +108,7 @@ walks-shape limit least p h k =
       starts = c .are;
     }
 
-pub walks-begins : (p : List Token) → Each WellFormed p → length p ≤ 1048576 → Walks 8 start p noRows → Clean nothing p → Begins p
+pub walks-begins : (p : List Token) → Each WellFormed p → length p ≤ mostBytes → Walks 8 start p noRows → Clean nothing p → Begins p
 walks-begins p h l k c =
     let n : (x : List ℕ) × WellFormed (record { kind = 6; content = x }) × (List·Memᴰ x (namesIn p) → ⊥)
     = fresh-name-of 21 (namesIn p) (omega arith) (omega arith) (omega (arith, names-count p)) in

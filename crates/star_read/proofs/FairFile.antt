@@ -6,6 +6,7 @@ use mathlib.Core.List.{List, [], _∷_, _++_, map-append}
 use Prim.Native.Nat.{ℕ, _≤_}
 use native.Mathlib.Omega.{arith}
 use lib.ListN.{length, length-append, length-map}
+use Rattle.star_text.specs.Bytes.{mostBytes}
 use Rattle.star_lex.specs.Tokens.{Placed, Each}
 use Rattle.star_lex.specs.WellFormed.{WellFormed}
 use Rattle.star_lex.proofs.Each.{each-append}
@@ -40,7 +41,7 @@ module _ (file : List ℕ) (words : Sizes) (ps : List Placed) (f : Tokenized fil
   part-formed p q e =
       each-append WellFormed (tokensOnly p) (tokensOnly q) .0 (rw (e, map-append) at (split-well-formed file ps (f .splits))) .0
 
-  part-small : (p q : List Placed) → ps ≡ p ++ q → length (tokensOnly p) ≤ 1048576
+  part-small : (p q : List Placed) → ps ≡ p ++ q → length (tokensOnly p) ≤ mostBytes
   part-small p q e =
       rw length-map (omega (arith, f .small, split-count file ps (f .splits), ap length e, length-append p q))
 

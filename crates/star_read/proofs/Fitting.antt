@@ -7,6 +7,7 @@ use Prim.Native.Nat.{ℕ, _*_}
 use borrow.Author.Tests.{le-leb, le-ltb}
 use lib.Dec.{ltb}
 use lib.ListN.{length}
+use Rattle.star_text.specs.Bytes.{mostBytes}
 use Rattle.star_lex.specs.Tokens.{Placed}
 use Rattle.star_lex.specs.Found.{tokensIn}
 use Rattle.star_lex.specs.Found as Found
@@ -22,7 +23,7 @@ pub tokenized-read : (file : List ℕ) (words : Sizes) (ps : List Placed) → To
     → readOf file words ≡ fitting words (grammarOf (length file) ps)
 unfolding readOf after tokensIn Found.fitting
 tokenized-read file words ps f =
-    rw (le-leb (length file) 1048576 (f .small), f .splits, le-leb (length ps * 3) (words .tokens) (f .room))
+    rw (le-leb (length file) mostBytes (f .small), f .splits, le-leb (length ps * 3) (words .tokens) (f .room))
 
 pub room-fits : (words : Sizes) (ps : List Placed) (rows : Rows) → Room words rows → fitting words (accepted ps rows) ≡ accepted ps rows
 unfolding fitting

@@ -7,6 +7,7 @@ use Prim.Native.Nat.{ℕ, _*_, _≤_, _<_}
 use borrow.Author.Tests.{le-leb, lt-leb, lt-ltb, le-ltb, leb-true, leb-false, ltb-true, ltb-false}
 use lib.Dec.{leb, ltb}
 use lib.ListN.{length}
+use Rattle.star_text.specs.Bytes.{mostBytes}
 use Rattle.star_lex.specs.Tokens.{Placed}
 use Rattle.star_lex.specs.Split.{Split, tokensOf}
 use Rattle.star_lex.specs.Split as Split
@@ -69,23 +70,23 @@ module _ (file : List ℕ) (words : Sizes) (ps : List Placed) (f : Tokenized fil
 
 -- the checks before the grammar
 module _ (file : List ℕ) (words : Sizes) where
-  over-size-read : 1048576 < length file → readOf file words ≡ refused 1 0
+  over-size-read : mostBytes < length file → readOf file words ≡ refused 1 0
   unfolding readOf after tokensIn
-  over-size-read h = rw (lt-leb (length file) 1048576 h)
+  over-size-read h = rw (lt-leb (length file) mostBytes h)
 
-  unsplit-read : (n place : ℕ) → length file ≤ 1048576 → tokensOf file ≡ Split.refused n place → readOf file words ≡ refused n place
+  unsplit-read : (n place : ℕ) → length file ≤ mostBytes → tokensOf file ≡ Split.refused n place → readOf file words ≡ refused n place
   unfolding readOf after tokensIn Found.fitting
-  unsplit-read n place small e = rw (le-leb (length file) 1048576 small, e)
+  unsplit-read n place small e = rw (le-leb (length file) mostBytes small, e)
 
-  no-room-read : (ps : List Placed) → length file ≤ 1048576 → tokensOf file ≡ Split.accepted ps → words .tokens < length ps * 3
+  no-room-read : (ps : List Placed) → length file ≤ mostBytes → tokensOf file ≡ Split.accepted ps → words .tokens < length ps * 3
       → readOf file words ≡ refused 7 1
   unfolding readOf after tokensIn Found.fitting
-  no-room-read ps small e h = rw (le-leb (length file) 1048576 small, e, lt-leb (length ps * 3) (words .tokens) h)
+  no-room-read ps small e h = rw (le-leb (length file) mostBytes small, e, lt-leb (length ps * 3) (words .tokens) h)
 
 pub reading-settled : ReadingSettled
-reading-settled file words = bySize (leb (length file) 1048576) refl
+reading-settled file words = bySize (leb (length file) mostBytes) refl
   where
-    byRoom : (ps : List Placed) → length file ≤ 1048576 → tokensOf file ≡ Split.accepted ps → (b : Bool) → leb (length ps * 3) (words .tokens) ≡ b
+    byRoom : (ps : List Placed) → length file ≤ mostBytes → tokensOf file ≡ Split.accepted ps → (b : Bool) → leb (length ps * 3) (words .tokens) ≡ b
         → Settles file words (readOf file words)
     byRoom ps small e true d =
         let f : Tokenized file words ps = record { small = small; splits = e; room = leb-true _ _ d } in
@@ -94,13 +95,13 @@ reading-settled file words = bySize (leb (length file) 1048576) refl
         let h : words .tokens < length ps * 3 = leb-false _ _ d in
         rw (no-room-read file words ps small e h) (Settles.no-token-room ps small e h)
 
-    bySplit : length file ≤ 1048576 → (s : Split) → tokensOf file ≡ s → Settles file words (readOf file words)
+    bySplit : length file ≤ mostBytes → (s : Split) → tokensOf file ≡ s → Settles file words (readOf file words)
     bySplit small (Split.refused n place) e = rw (unsplit-read file words n place small e) (Settles.unsplit n place small e)
     bySplit small (Split.accepted ps) e = byRoom ps small e (leb (length ps * 3) (words .tokens)) refl
 
-    bySize : (b : Bool) → leb (length file) 1048576 ≡ b → Settles file words (readOf file words)
+    bySize : (b : Bool) → leb (length file) mostBytes ≡ b → Settles file words (readOf file words)
     bySize true d = bySplit (leb-true _ _ d) (tokensOf file) refl
-    bySize false d = let h : 1048576 < length file = leb-false _ _ d in rw (over-size-read file words h) (Settles.over-size h)
+    bySize false d = let h : mostBytes < length file = leb-false _ _ d in rw (over-size-read file words h) (Settles.over-size h)
 
 -- what is settled is what is read
 module _ (file : List ℕ) (words : Sizes) where

@@ -4,6 +4,7 @@ use mathlib.Core.Logic.{_⊎_, _↔_}
 use mathlib.Core.List.{List, [], _∷_, _++_}
 use Prim.Native.Nat.{ℕ, _*_, _≤_, _<_}
 use lib.ListN.{length}
+use Rattle.star_text.specs.Bytes.{mostBytes}
 use Rattle.star_lex.specs.Tokens.{Token, Placed, Each}
 use Rattle.star_lex.specs.Split.{tokensOf}
 use Rattle.star_lex.specs.Split as Split
@@ -33,7 +34,7 @@ pub record Room (words : Sizes) (rows : Rows) : Type 0 where
 
 -- a file within the size limit that splits into these tokens, and a table 1 with room for them
 pub record Tokenized (file : List ℕ) (words : Sizes) (ps : List Placed) : Type 0 where
-  pub small : length file ≤ 1048576
+  pub small : length file ≤ mostBytes
   pub splits : tokensOf file ≡ Split.accepted ps
   pub room : length ps * 3 ≤ words .tokens
 
@@ -135,9 +136,9 @@ pub data Short (words : Sizes) (rows : Rows) : (table : ℕ) → Type 0 where
 
 -- what reading gives, of any file and any tables: the refusals in order of checking, or the rows of the reading
 pub data Settles (file : List ℕ) (words : Sizes) : Outcome → Type 0 where
-  over-size : 1048576 < length file → Settles file words (refused 1 0)
-  unsplit : (n place : ℕ) → length file ≤ 1048576 → tokensOf file ≡ Split.refused n place → Settles file words (refused n place)
-  no-token-room : (ps : List Placed) → length file ≤ 1048576 → tokensOf file ≡ Split.accepted ps → words .tokens < length ps * 3
+  over-size : mostBytes < length file → Settles file words (refused 1 0)
+  unsplit : (n place : ℕ) → length file ≤ mostBytes → tokensOf file ≡ Split.refused n place → Settles file words (refused n place)
+  no-token-room : (ps : List Placed) → length file ≤ mostBytes → tokensOf file ≡ Split.accepted ps → words .tokens < length ps * 3
       → Settles file words (refused 7 1)
   no-reading : (ps : List Placed) (n place : ℕ) → Tokenized file words ps → (Reading (tokensOnly ps) → ⊥) → Bad file ps n place
       → Settles file words (refused n place)
@@ -164,7 +165,7 @@ pub data Numbered (size : ℕ) : (number place : ℕ) → Type 0 where
 
 -- a file within the size limit that splits into tokens which have a reading
 pub record HasReading (file : List ℕ) : Type 0 where
-  pub small : length file ≤ 1048576
+  pub small : length file ≤ mostBytes
   pub tokens : List Placed
   pub splits : tokensOf file ≡ Split.accepted tokens
   pub reading : Reading (tokensOnly tokens)

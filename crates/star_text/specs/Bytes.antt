@@ -6,6 +6,10 @@ use Prim.Native.Nat.{ℕ, _<_}
 use lib.Dec.{eqb, leb, ltb}
 use lib.ListN.{length, getD}
 
+-- a file has at most so many bytes: refusal 1
+abbrev pub mostBytes : ℕ
+mostBytes = 1048576
+
 -- blank: 9, 11, 32
 unfoldable pub isBlank : ℕ → Bool
 isBlank b = eqb b 9 || eqb b 11 || eqb b 32

@@ -5,6 +5,9 @@ ghost use Prim.Native.Nat.{ℕ, _+_, _≤_, _<_};
 ghost use lib.ListN.{length, getD, drop};
 ghost use Rattle.star_text.specs.Bytes.{Classes, classIn, allowedIn, terminateIn, whiteIn, belowIn, firstRefusedIn, run};
 
+// The most bytes that a file may have.
+pub const MOST_BYTES: usize = 1048576;
+
 // The classes of bytes: not allowed, printable, blank, terminate.
 const REFUSED: u8 = 0;
 

@@ -6,6 +6,7 @@ use Prim.Native.Nat.{ℕ, zero, suc, _+_, _-_, _*_, _≤_, _<_}
 use native.Mathlib.Nat.{add-zero}
 use native.Mathlib.Omega.{arith}
 use lib.ListN.{length, getD, take, drop, length-map, List·getD-map}
+use Rattle.star_text.specs.Bytes.{mostBytes}
 use Rattle.star_lex.specs.Tokens.{Placed, Each, opening, tokenRow}
 use Rattle.star_lex.specs.Split.{Split, refused, accepted, tokensOf, placed}
 use Rattle.star_lex.specs.Table.{contentIn}
@@ -43,7 +44,7 @@ few-tokens file = go (tokensOf file) refl
     go (refused n place) e = omega arith
     go (accepted ps) e = split-count file ps e
 
-pub count-small : (file words : List ℕ) (count : ℕ) → Holds file words count → count ≤ 1048576
+pub count-small : (file words : List ℕ) (count : ℕ) → Holds file words count → count ≤ mostBytes
 count-small file words count h = omega (arith, few-tokens file, h .small, h .count-is)
 
 -- no token, which stands where there is none

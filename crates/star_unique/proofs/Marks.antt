@@ -9,6 +9,7 @@ use lib.Dec.{eqb}
 use borrow.Author.Tests.{ne-eqb}
 use lib.ListN.{length, getD, take, drop, drop-of-length-le}
 use lib.Seq.{drop-cons}
+use Rattle.star_text.specs.Bytes.{mostBytes}
 use Rattle.star_lex.specs.Tokens.{Token}
 use Rattle.star_unique.specs.Repeat.{same}
 use Rattle.star_unique.specs.Holds.{Holds, tokenAt}
@@ -29,7 +30,7 @@ module _ (h : ℕ) (x : List ℕ) (i : ℕ) where
 -- the span of a token
 pub record Span (file words : List ℕ) (n : ℕ) : Type 0 where
   pub room : n * 3 + 3 ≤ length words
-  pub small : length file ≤ 1048576
+  pub small : length file ≤ mostBytes
   pub ordered : getD words (n * 3 + 1) 0 ≤ getD words (n * 3 + 2) 0
   pub within : getD words (n * 3 + 2) 0 ≤ length file
   pub content : take (getD words (n * 3 + 2) 0 - getD words (n * 3 + 1) 0) (drop (getD words (n * 3 + 1) 0) file) ≡ tokenAt file n .content

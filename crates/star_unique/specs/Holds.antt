@@ -3,6 +3,7 @@ use mathlib.Core.Path.{_≡_}
 use mathlib.Core.List.{List, [], map}
 use Prim.Native.Nat.{ℕ, _*_, _≤_}
 use lib.ListN.{length, getD}
+use Rattle.star_text.specs.Bytes.{mostBytes}
 use Rattle.star_rows.specs.Rows.{holding}
 use Rattle.star_lex.specs.Tokens.{Token, tokenRow}
 use Rattle.star_lex.specs.Split.{tokensOf, placed}
@@ -17,7 +18,7 @@ tokenAt file n = getD (fileTokens file) n (record { kind = 0; content = [] })
 
 -- the words are table 1 of a file with so many tokens, which has room for them
 pub record Holds (file words : List ℕ) (count : ℕ) : Type 0 where
-  pub small : length file ≤ 1048576
+  pub small : length file ≤ mostBytes
   pub rows : words ≡ holding tokenRow (placed (tokensOf file)) (length words)
   pub room : length (placed (tokensOf file)) * 3 ≤ length words
   pub count-is : count ≡ length (placed (tokensOf file))

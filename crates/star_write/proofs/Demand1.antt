@@ -5,6 +5,7 @@ use Prim.Native.Nat.{ℕ}
 use native.Mathlib.Nat.{sub-zero}
 use lib.Dec.{leb}
 use lib.ListN.{length}
+use Rattle.star_text.specs.Bytes.{mostBytes}
 use Rattle.star_lex.specs.Plain.{plainOf}
 use Rattle.star_lex.proofs.Cases.{impossible, cond-cases}
 use Rattle.star_read.specs.Read.{Outcome, Sizes, tokensOnly, readOf}
@@ -28,7 +29,7 @@ write-numbered file words room n place e = by (readOf file words) refl e
     by (Read.refused m i) d h = same (WriteNumbered.as-reading m i (refused-numbered file words m i d)) h
     by (Read.accepted ps rows) d h =
         let p : List ℕ = plainOf (tokensOnly ps) in
-        cond-cases (leb (length p) 1048576) _ _ (refused n place) h
+        cond-cases (leb (length p) mostBytes) _ _ (refused n place) h
         (λ s k. cond-cases (leb (length p) room) _ _ (refused n place) k (λ r w. impossible cc) (λ r w. same WriteNumbered.output w))
         (λ s k. same (WriteNumbered.as-reading 1 0 Numbered.over-size) k)
 

@@ -8,6 +8,7 @@ use native.Mathlib.Omega.{arith}
 use borrow.Author.Tests.{leb-true, le-leb, lt-leb}
 use lib.Dec.{leb}
 use lib.ListN.{length, replicate}
+use Rattle.star_text.specs.Bytes.{mostBytes}
 use Rattle.star_lex.specs.Tokens.{Placed}
 use Rattle.star_lex.specs.Plain.{plainOf}
 use Rattle.star_lex.proofs.Cases.{impossible, cond-cases}
@@ -27,7 +28,7 @@ use Rattle.star_write.specs.declared.Written.{Written}
 pub record Wrote (file : List ℕ) (words : Sizes) (room : ℕ) (ps : List Placed) (rows : Rows) (plain : List ℕ) : Type 0 where
   pub reads : readOf file words ≡ Read.accepted ps rows
   pub plain-is : plainOf (tokensOnly ps) ≡ plain
-  pub small : length plain ≤ 1048576
+  pub small : length plain ≤ mostBytes
   pub fits : length plain ≤ room
 
 pub wrote : (file : List ℕ) (words : Sizes) (room : ℕ) (ps : List Placed) (rows : Rows) (plain : List ℕ)
@@ -39,7 +40,7 @@ wrote file words room ps rows plain e = go (readOf file words) refl e
     go (Read.refused n place) d h = impossible cc
     go (Read.accepted qs us) d h =
         let p : List ℕ = plainOf (tokensOnly qs) in
-        cond-cases (leb (length p) 1048576) _ _ (written ps rows plain) h
+        cond-cases (leb (length p) mostBytes) _ _ (written ps rows plain) h
         (λ s k. cond-cases (leb (length p) room) _ _ (written ps rows plain) k
         (λ r w.
         let same : qs ≡ ps = cc in
@@ -47,7 +48,7 @@ wrote file words room ps rows plain e = go (readOf file words) refl e
         record {
           reads = cc;
           plain-is = ap (λ l. plainOf (tokensOnly l)) (sym same) ∙ is;
-          small = omega (arith, leb-true (length p) 1048576 s, ap length is);
+          small = omega (arith, leb-true (length p) mostBytes s, ap length is);
           fits = omega (arith, leb-true (length p) room r, ap length is);
         }) (λ r w. impossible cc)) (λ s k. impossible cc)
 
@@ -83,15 +84,15 @@ module _ (file : List ℕ) (words : Sizes) (r : Reading) (e : r ≡ Answer.answe
     unfolding writeOf after
     after-reading = rw (accepts .2, plain-file file words (accepts .0) (accepts .1) (accepts .2))
 
-    pub too-long : 1048576 < length (plainOf (fileTokens file)) → writeOf file words room ≡ refused 1 0
+    pub too-long : mostBytes < length (plainOf (fileTokens file)) → writeOf file words room ≡ refused 1 0
     unfolding fitting
     too-long h = rw (after-reading, lt-leb _ _ h)
 
-    pub too-short : length (plainOf (fileTokens file)) ≤ 1048576 → room < length (plainOf (fileTokens file)) → writeOf file words room ≡ refused 7 6
+    pub too-short : length (plainOf (fileTokens file)) ≤ mostBytes → room < length (plainOf (fileTokens file)) → writeOf file words room ≡ refused 7 6
     unfolding fitting
     too-short h k = rw (after-reading, le-leb _ _ h, lt-leb _ _ k)
 
-    pub fits-output : length (plainOf (fileTokens file)) ≤ 1048576 → length (plainOf (fileTokens file)) ≤ room
+    pub fits-output : length (plainOf (fileTokens file)) ≤ mostBytes → length (plainOf (fileTokens file)) ≤ room
         → counted (length (plainOf (fileTokens file))) r ≡ answerOf (writeOf file words room)
     unfolding fitting answerOf readingOf bytesOf Answer.answerOf
     fits-output h k =
@@ -108,7 +109,7 @@ write-number file words room n place e z = go (readOf file words) refl e
     go (Read.refused m q) d h = let k : m ≡ n = cc in read-number file words m q d (k ∙ z)
     go (Read.accepted ps rows) d h =
         let p : List ℕ = plainOf (tokensOnly ps) in
-        cond-cases (leb (length p) 1048576) _ _ (refused n place) h
+        cond-cases (leb (length p) mostBytes) _ _ (refused n place) h
         (λ s k. cond-cases (leb (length p) room) _ _ (refused n place) k (λ r w. impossible cc) (λ r w. let m : 7 ≡ n = cc in omega arith))
         (λ s k. let m : 1 ≡ n = cc in omega arith)
 

@@ -6,6 +6,7 @@ use native.Mathlib.Numerals.{add-one}
 use native.Mathlib.Omega.{arith}
 use lib.ListN.{length, getD, take, drop, length-append, length-take, length-drop, take-append-drop}
 use lib.Seq.{take-suc, take-all}
+use Rattle.star_text.specs.Bytes.{mostBytes}
 use Rattle.star_rows.proofs.Stored.{flat-append}
 use Rattle.star_lex.specs.Tokens.{Token}
 use Rattle.star_lex.specs.Plain.{plainToken, plainOf}
@@ -39,7 +40,7 @@ pub record Next (file : List ℕ) (n kind : ℕ) (content : List ℕ) : Type 0 w
   pub plain : plainFirst (n + 1) (fileTokens file) ≡ plainFirst n (fileTokens file) ++ plainToken (tokenOf kind content)
   pub within : length (plainFirst (n + 1) (fileTokens file)) ≤ length (plainOf (fileTokens file))
   pub sum : length (plainFirst (n + 1) (fileTokens file)) ≡ length (plainFirst n (fileTokens file)) + length (plainToken (tokenOf kind content))
-  pub small : length content ≤ 1048576
+  pub small : length content ≤ mostBytes
 
 module _ (file words : List ℕ) (count : ℕ) (h : Holds file words count) where
   pub plain-all : (n : ℕ) → count ≤ n → plainFirst n (fileTokens file) ≡ plainOf (fileTokens file)

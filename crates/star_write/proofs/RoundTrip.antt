@@ -6,6 +6,7 @@ use Prim.Native.Nat.{ℕ, _*_, _≤_}
 use native.Mathlib.Omega.{arith}
 use borrow.Author.Tests.{le-leb}
 use lib.ListN.{length, length-map}
+use Rattle.star_text.specs.Bytes.{mostBytes}
 use Rattle.star_lex.specs.Tokens.{Token, Placed}
 use Rattle.star_lex.specs.Split.{tokensOf}
 use Rattle.star_lex.specs.Split as Split
@@ -35,7 +36,7 @@ module _ (plain : List ℕ) (words : Sizes) (ps qs : List Placed) (r : Reading (
   read-rows : tokensOnly qs ≡ tokensOnly ps → (rows : Rows) → readOf plain words ≡ Read.accepted qs rows → rows ≡ rowsOf (r .tree)
   read-rows e rows a = let b = rows-of-reading plain words qs rows a in b .2 ∙ same-rows e (b .1)
 
-  reads-same : length plain ≤ 1048576 → tokensOf plain ≡ Split.accepted qs → tokensOnly qs ≡ tokensOnly ps → length ps * 3 ≤ words .tokens
+  reads-same : length plain ≤ mostBytes → tokensOf plain ≡ Split.accepted qs → tokensOnly qs ≡ tokensOnly ps → length ps * 3 ≤ words .tokens
       → Room words (rowsOf (r .tree)) → readOf plain words ≡ Read.accepted qs (rowsOf (r .tree))
   reads-same small splits e table rooms =
       let fair : Fair plain words qs = record {
@@ -68,4 +69,4 @@ writes-again file words room ps rows plain e others table rooms space fits =
     let w : Wrote file words room ps rows plain = wrote file words room ps rows plain e in
     let b : ReadsBack plain others ps rows = round-trip file words room ps rows plain e others table rooms in
     let same : plainOf (tokensOnly (b .tokens)) ≡ plain = ap plainOf (b .same) ∙ w .plain-is in
-    (b .tokens, rw (b .accepts, same, le-leb (length plain) 1048576 (w .small), le-leb (length plain) space fits))
+    (b .tokens, rw (b .accepts, same, le-leb (length plain) mostBytes (w .small), le-leb (length plain) space fits))

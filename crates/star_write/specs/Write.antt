@@ -4,6 +4,7 @@ use mathlib.Core.List.{List}
 use Prim.Native.Nat.{ℕ}
 use lib.Dec.{leb}
 use lib.ListN.{length}
+use Rattle.star_text.specs.Bytes.{mostBytes}
 use Rattle.star_lex.specs.Tokens.{Placed}
 use Rattle.star_lex.specs.Plain.{plainOf}
 use Rattle.star_grammar.specs.Tables.{Rows}
@@ -18,7 +19,7 @@ pub data Writing : Type 0 where
 -- 1 if the plain form is over 1,048,576 bytes, then 7 with place 6 if the output, of so many bytes, is too short
 unfoldable pub fitting : (room : ℕ) → List Placed → Rows → (plain : List ℕ) → Writing
 fitting room ps rows plain =
-    cond (leb (length plain) 1048576) (cond (leb (length plain) room) (written ps rows plain) (refused 7 6)) (refused 1 0)
+    cond (leb (length plain) mostBytes) (cond (leb (length plain) room) (written ps rows plain) (refused 7 6)) (refused 1 0)
 
 -- the writer reads first, with reading's refusals
 unfoldable pub after : (room : ℕ) → Outcome → Writing

@@ -54,7 +54,7 @@ fn answer(file: &[u8], tokens: &[u32], reading: Reading, room: usize) -> Written
         return refusing(reading.refusal, reading.place);
     }
     let size = plain::plain_length(file, tokens, reading.tokens as usize);
-    if size > 1048576 {
+    if size > star_text::MOST_BYTES {
         return refusing(1, 0);
     }
     if size > room {

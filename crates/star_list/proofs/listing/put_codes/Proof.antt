@@ -1,9 +1,10 @@
 -- `put_codes` meets its contract: the lines of the tokens passed are put, and each turn puts those of one token more.
 use mathlib.Core.Path.{_≡_, refl, _∙_}
 use mathlib.Core.List.{flatMap}
-use Prim.Native.Nat.{_-_, _*_, _≤_}
+use Prim.Native.Nat.{_+_, _-_, _*_, _≤_}
 use native.Mathlib.Omega.{arith}
 use lib.ListN.{length, getD, take}
+use Rattle.star_text.specs.Bytes.{mostBytes}
 use Rattle.star_unique.specs.Holds.{fileTokens}
 use Rattle.star_unique.proofs.Held.{count-small}
 use Rattle.star_list.specs.Listing.{blockCodes, codeLines}
@@ -14,7 +15,7 @@ use Rattle.star_list.proofs.listing.put_codes.Statement.{statement}
 use Rattle.star_list.proofs.listing.put_codes.Tie as tie
 
 abbrev Inv-loop : tie.InvT-loop
-Inv-loop out₀ file tokens count at₀ n₀ out at n = (n ≤ count) × Put (codeLines (take n (fileTokens file))) 0 out₀ out at × (length out ≡ length out₀) × (at ≤ n * 1048577)
+Inv-loop out₀ file tokens count at₀ n₀ out at n = (n ≤ count) × Put (codeLines (take n (fileTokens file))) 0 out₀ out at × (length out ≡ length out₀) × (at ≤ n * (mostBytes + 1))
 
 abbrev μ-loop : tie.MeasureT-loop
 μ-loop out₀ file tokens count at₀ n₀ out at n = count - n

@@ -4,6 +4,7 @@ use mathlib.Core.List.{List, []}
 use Prim.Native.Nat.{ℕ, _+_, _-_, _≤_, _<_}
 use native.Mathlib.Omega.{arith}
 use lib.ListN.{length, getD, set, length-set}
+use Rattle.star_text.specs.Bytes.{mostBytes}
 use Rattle.star_grammar.specs.Machine.{Where, setOf, header}
 use Rattle.star_parse.specs.Parsed.{tables}
 use Rattle.star_parse.specs.Reader.{Ready, Passes}
@@ -16,7 +17,7 @@ use Rattle.star_parse.proofs.header.read_loop.Tie as tie
 
 abbrev Inv-loop : tie.InvT-loop
 Inv-loop tokens count set names₀ packets₀ values₀ p₀ first counts₀ level₀ names packets values p counts level =
-    Ready count tokens p × (p₀ .at ≤ p .at) × (level < 8) × (length counts ≡ 8) × ((i : ℕ) → getD counts i 0 ≤ 1048576)
+    Ready count tokens p × (p₀ .at ≤ p .at) × (level < 8) × (length counts ≡ 8) × ((i : ℕ) → getD counts i 0 ≤ mostBytes)
     × (length names ≡ length names₀) × (length packets ≡ length packets₀) × (length values ≡ length values₀)
     × ((w : Where) (sets : List ℕ) → setOf w ≡ set
     → Passes count tokens (header w first [] 0 0) p₀ (tables sets names₀ packets₀ values₀)
