@@ -5,6 +5,7 @@ use mathlib.Core.Option.{Option, none, some}
 use Prim.Native.Nat.{ℕ, _+_, _*_}
 use lib.Dec.{leb}
 use lib.ListN.{length, replicate}
+use Rattle.star_rows.specs.Widths.{tokenWidth}
 use Rattle.star_text.specs.Bytes.{mostBytes}
 use Rattle.star_rows.specs.Rows.{holding}
 use Rattle.star_lex.specs.Tokens.{opening, tokenRow}
@@ -18,7 +19,7 @@ use Rattle.star_lex.specs.declared.word.Word.the-variants.{Kind, Ill}
 -- 1, then 2 over the whole file, then the first faulty token of 3 to 6; then 7 for table 1, of so many words
 unfoldable pub fitting : ℕ → Split → Split
 fitting words (refused n place) = refused n place
-fitting words (accepted ps) = cond (leb (length ps * 3) words) (accepted ps) (refused 7 1)
+fitting words (accepted ps) = cond (leb (length ps * tokenWidth) words) (accepted ps) (refused 7 1)
 
 unfoldable pub tokensIn : List ℕ → (words : ℕ) → Split
 tokensIn file words = cond (leb (length file) mostBytes) (fitting words (tokensOf file)) (refused 1 0)

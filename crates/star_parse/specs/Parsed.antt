@@ -5,6 +5,7 @@ use mathlib.Core.List.{List, [], _∷_}
 use Prim.Native.Nat.{ℕ, zero, suc, _*_}
 use lib.Dec.{leb}
 use lib.ListN.{length, getD, drop}
+use Rattle.star_rows.specs.Widths.{tokenWidth, setWidth, nameWidth, packetWidth, valueWidth}
 use Rattle.star_text.specs.Bytes.{mostBytes}
 use Rattle.star_lex.specs.Tokens.{Token}
 use Rattle.star_rows.specs.Rows.{stored}
@@ -19,7 +20,7 @@ kindTokens (suc n) words = record { kind = getD words 0 0; content = [] } ∷ ki
 
 -- a table of so many words has that many rows of tokens, at most one for each byte that a file may have
 unfoldable pub hasRows : (count words : ℕ) → Bool
-hasRows count words = leb (count * 3) words && leb count mostBytes
+hasRows count words = leb (count * tokenWidth) words && leb count mostBytes
 
 -- the run over the first rows of a table; 14 where it has not that many
 unfoldable pub rowsRun : (count : ℕ) → List ℕ → Run
@@ -34,10 +35,10 @@ pub record FourTables : Type 0 where
 
 -- the four tables hold the rows that fit them, over what they held before
 pub record Stored (before : FourTables) (rows : Rows) (after : FourTables) : Type 0 where
-  pub sets : after .sets ≡ stored 3 setWords (rows .sets) (before .sets)
-  pub names : after .names ≡ stored 4 nameWords (rows .names) (before .names)
-  pub packets : after .packets ≡ stored 3 packetWords (rows .packets) (before .packets)
-  pub values : after .values ≡ stored 3 valueWords (rows .values) (before .values)
+  pub sets : after .sets ≡ stored setWidth setWords (rows .sets) (before .sets)
+  pub names : after .names ≡ stored nameWidth nameWords (rows .names) (before .names)
+  pub packets : after .packets ≡ stored packetWidth packetWords (rows .packets) (before .packets)
+  pub values : after .values ≡ stored valueWidth valueWords (rows .values) (before .values)
 
 -- refused: the number, how many tokens stand before the bad one, and no rows; the tables are the caller's to clear
 pub record Refused (number place : ℕ) (r : Parsed) : Type 0 where

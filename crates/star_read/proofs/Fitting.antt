@@ -7,6 +7,7 @@ use Prim.Native.Nat.{ℕ, _*_}
 use borrow.Author.Tests.{le-leb, le-ltb}
 use lib.Dec.{ltb}
 use lib.ListN.{length}
+use Rattle.star_rows.specs.Widths.{tokenWidth, setWidth, nameWidth, packetWidth, valueWidth}
 use Rattle.star_text.specs.Bytes.{mostBytes}
 use Rattle.star_lex.specs.Tokens.{Placed}
 use Rattle.star_lex.specs.Found.{tokensIn}
@@ -23,7 +24,7 @@ pub tokenized-read : (file : List ℕ) (words : Sizes) (ps : List Placed) → To
     → readOf file words ≡ fitting words (grammarOf (length file) ps)
 unfolding readOf after tokensIn Found.fitting
 tokenized-read file words ps f =
-    rw (le-leb (length file) mostBytes (f .small), f .splits, le-leb (length ps * 3) (words .tokens) (f .room))
+    rw (le-leb (length file) mostBytes (f .small), f .splits, le-leb (length ps * tokenWidth) (words .tokens) (f .room))
 
 pub room-fits : (words : Sizes) (ps : List Placed) (rows : Rows) → Room words rows → fitting words (accepted ps rows) ≡ accepted ps rows
 unfolding fitting
@@ -40,7 +41,7 @@ pub fits-accepted : (words : Sizes) (o : Outcome) (ps : List Placed) (rows : Row
 unfolding fitting
 fits-accepted words (refused n place) ps rows e = e
 fits-accepted words (accepted qs u) ps rows e =
-    past-refused (ltb (words .values) (length (u .values) * 3)) 7 5 _ ps rows
-    (past-refused (ltb (words .packets) (length (u .packets) * 3)) 7 4 _ ps rows
-    (past-refused (ltb (words .names) (length (u .names) * 4)) 7 3 _ ps rows
-    (past-refused (ltb (words .sets) (length (u .sets) * 3)) 7 2 _ ps rows e)))
+    past-refused (ltb (words .values) (length (u .values) * valueWidth)) 7 5 _ ps rows
+    (past-refused (ltb (words .packets) (length (u .packets) * packetWidth)) 7 4 _ ps rows
+    (past-refused (ltb (words .names) (length (u .names) * nameWidth)) 7 3 _ ps rows
+    (past-refused (ltb (words .sets) (length (u .sets) * setWidth)) 7 2 _ ps rows e)))

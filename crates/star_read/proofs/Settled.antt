@@ -7,6 +7,7 @@ use Prim.Native.Nat.{ℕ, _*_, _≤_, _<_}
 use borrow.Author.Tests.{le-leb, lt-leb, lt-ltb, le-ltb, leb-true, leb-false, ltb-true, ltb-false}
 use lib.Dec.{leb, ltb}
 use lib.ListN.{length}
+use Rattle.star_rows.specs.Widths.{setWidth, nameWidth, packetWidth, valueWidth}
 use Rattle.star_text.specs.Bytes.{mostBytes}
 use Rattle.star_lex.specs.Tokens.{Placed}
 use Rattle.star_lex.specs.Split.{Split, tokensOf}
@@ -31,11 +32,11 @@ data Fits (words : Sizes) (ps : List Placed) (rows : Rows) : Outcome → Type 0 
 fits : (words : Sizes) (ps : List Placed) (rows : Rows) → Fits words ps rows (fitting words (accepted ps rows))
 unfolding fitting
 fits words ps rows =
-    by (ltb (words .sets) (length (rows .sets) * 3)) refl (ltb (words .names) (length (rows .names) * 4)) refl
-    (ltb (words .packets) (length (rows .packets) * 3)) refl (ltb (words .values) (length (rows .values) * 3)) refl
+    by (ltb (words .sets) (length (rows .sets) * setWidth)) refl (ltb (words .names) (length (rows .names) * nameWidth)) refl
+    (ltb (words .packets) (length (rows .packets) * packetWidth)) refl (ltb (words .values) (length (rows .values) * valueWidth)) refl
   where
-    by : (a : Bool) → ltb (words .sets) (length (rows .sets) * 3) ≡ a → (b : Bool) → ltb (words .names) (length (rows .names) * 4) ≡ b
-        → (c : Bool) → ltb (words .packets) (length (rows .packets) * 3) ≡ c → (d : Bool) → ltb (words .values) (length (rows .values) * 3) ≡ d
+    by : (a : Bool) → ltb (words .sets) (length (rows .sets) * setWidth) ≡ a → (b : Bool) → ltb (words .names) (length (rows .names) * nameWidth) ≡ b
+        → (c : Bool) → ltb (words .packets) (length (rows .packets) * packetWidth) ≡ c → (d : Bool) → ltb (words .values) (length (rows .values) * valueWidth) ≡ d
         → Fits words ps rows (fitting words (accepted ps rows))
     by true p b q c r d s = rw p (Fits.short 2 (Short.sets (ltb-true _ _ p)))
     by false p true q c r d s = rw (p, q) (Fits.short 3 (Short.names (ltb-false _ _ p) (ltb-true _ _ q)))

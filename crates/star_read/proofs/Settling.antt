@@ -7,6 +7,7 @@ use native.Mathlib.Omega.{arith}
 use borrow.Author.Tests.{ltb-false}
 use lib.Dec.{ltb}
 use lib.ListN.{length}
+use Rattle.star_rows.specs.Widths.{setWidth, nameWidth, packetWidth, valueWidth}
 use Rattle.star_rows.specs.Rows.{holding, clearedFrom}
 use Rattle.star_rows.proofs.Stored.{stored-holding}
 use Rattle.star_lex.specs.Tokens.{Placed, tokenRow}
@@ -46,11 +47,11 @@ module _ (w : Sizes) (ps : List Placed) (rows : Rows) where
   rooms : judgedOf (fitting w (accepted ps rows)) .refusal ≡ 0 → (fitting w (accepted ps rows) ≡ accepted ps rows) × Room w rows
   unfolding fitting judgedOf
   rooms e =
-      byTests (ltb (w .sets) (length (rows .sets) * 3)) refl (ltb (w .names) (length (rows .names) * 4)) refl
-      (ltb (w .packets) (length (rows .packets) * 3)) refl (ltb (w .values) (length (rows .values) * 3)) refl
+      byTests (ltb (w .sets) (length (rows .sets) * setWidth)) refl (ltb (w .names) (length (rows .names) * nameWidth)) refl
+      (ltb (w .packets) (length (rows .packets) * packetWidth)) refl (ltb (w .values) (length (rows .values) * valueWidth)) refl
     where
-      byTests : (a : Bool) → ltb (w .sets) (length (rows .sets) * 3) ≡ a → (b : Bool) → ltb (w .names) (length (rows .names) * 4) ≡ b
-          → (c : Bool) → ltb (w .packets) (length (rows .packets) * 3) ≡ c → (d : Bool) → ltb (w .values) (length (rows .values) * 3) ≡ d
+      byTests : (a : Bool) → ltb (w .sets) (length (rows .sets) * setWidth) ≡ a → (b : Bool) → ltb (w .names) (length (rows .names) * nameWidth) ≡ b
+          → (c : Bool) → ltb (w .packets) (length (rows .packets) * packetWidth) ≡ c → (d : Bool) → ltb (w .values) (length (rows .values) * valueWidth) ≡ d
           → (fitting w (accepted ps rows) ≡ accepted ps rows) × Room w rows
       byTests true p b q c r d s = absurd (let z : _≡_ {A = ℕ} 7 0 = rw p at e in omega arith)
       byTests false p true q c r d s = absurd (let z : _≡_ {A = ℕ} 7 0 = rw (p, q) at e in omega arith)
@@ -86,18 +87,18 @@ pub record Held (rows : Rows) (before after : FourTables) : Type 0 where
 
 pub cleared-held : (count : ℕ) (rows : Rows) (before mid after : FourTables) (r : Parsed) → Accepted count rows before r mid
     → ClearedBehind r mid after
-    → length (rows .sets) * 3 ≤ length (before .sets) → length (rows .names) * 4 ≤ length (before .names)
-    → length (rows .packets) * 3 ≤ length (before .packets) → length (rows .values) * 3 ≤ length (before .values)
+    → length (rows .sets) * setWidth ≤ length (before .sets) → length (rows .names) * nameWidth ≤ length (before .names)
+    → length (rows .packets) * packetWidth ≤ length (before .packets) → length (rows .values) * valueWidth ≤ length (before .values)
     → Held rows before after
 cleared-held count rows before mid after r a k hs hn hp hv = record {
-  sets = k .sets ∙ ap (λ n. clearedFrom (n * 3) (mid .sets)) (a .sets) ∙ ap (clearedFrom (length (rows .sets) * 3)) (a .tables .sets)
-      ∙ stored-holding 3 setWords set-wide (omega arith) (rows .sets) (before .sets) hs;
-  names = k .names ∙ ap (λ n. clearedFrom (n * 4) (mid .names)) (a .names) ∙ ap (clearedFrom (length (rows .names) * 4)) (a .tables .names)
-      ∙ stored-holding 4 nameWords name-wide (omega arith) (rows .names) (before .names) hn;
-  packets = k .packets ∙ ap (λ n. clearedFrom (n * 3) (mid .packets)) (a .packets) ∙ ap (clearedFrom (length (rows .packets) * 3)) (a .tables .packets)
-      ∙ stored-holding 3 packetWords packet-wide (omega arith) (rows .packets) (before .packets) hp;
-  values = k .values ∙ ap (λ n. clearedFrom (n * 3) (mid .values)) (a .values) ∙ ap (clearedFrom (length (rows .values) * 3)) (a .tables .values)
-      ∙ stored-holding 3 valueWords value-wide (omega arith) (rows .values) (before .values) hv;
+  sets = k .sets ∙ ap (λ n. clearedFrom (n * setWidth) (mid .sets)) (a .sets) ∙ ap (clearedFrom (length (rows .sets) * setWidth)) (a .tables .sets)
+      ∙ stored-holding setWidth setWords set-wide (omega arith) (rows .sets) (before .sets) hs;
+  names = k .names ∙ ap (λ n. clearedFrom (n * nameWidth) (mid .names)) (a .names) ∙ ap (clearedFrom (length (rows .names) * nameWidth)) (a .tables .names)
+      ∙ stored-holding nameWidth nameWords name-wide (omega arith) (rows .names) (before .names) hn;
+  packets = k .packets ∙ ap (λ n. clearedFrom (n * packetWidth) (mid .packets)) (a .packets) ∙ ap (clearedFrom (length (rows .packets) * packetWidth)) (a .tables .packets)
+      ∙ stored-holding packetWidth packetWords packet-wide (omega arith) (rows .packets) (before .packets) hp;
+  values = k .values ∙ ap (λ n. clearedFrom (n * valueWidth) (mid .values)) (a .values) ∙ ap (clearedFrom (length (rows .values) * valueWidth)) (a .tables .values)
+      ∙ stored-holding valueWidth valueWords value-wide (omega arith) (rows .values) (before .values) hv;
 }
 
 -- the numbers of an answer of the rows' reader

@@ -5,6 +5,7 @@ use mathlib.Core.List.{List}
 use Prim.Native.Nat.{ℕ, _*_}
 use lib.Dec.{ltb}
 use lib.ListN.{length, replicate}
+use Rattle.star_rows.specs.Widths.{setWidth, nameWidth, packetWidth, valueWidth}
 use Rattle.star_rows.specs.Rows.{holding, clearedFrom}
 use Rattle.star_lex.specs.Tokens.{tokenRow}
 use Rattle.star_grammar.specs.Tables.{setWords, nameWords, packetWords, valueWords}
@@ -87,10 +88,10 @@ Ran (good rows) count r =
 -- 7 for tables 2 to 5 by their numbers of rows and words, the lowest first
 unfoldable pub roomOf : (sets names packets values setWords nameWords packetWords valueWords : ℕ) → Judged
 roomOf s n p v sw nw pw vw =
-    cond (ltb sw (s * 3)) (record { refusal = 7; place = 2 })
-    (cond (ltb nw (n * 4)) (record { refusal = 7; place = 3 })
-    (cond (ltb pw (p * 3)) (record { refusal = 7; place = 4 })
-    (cond (ltb vw (v * 3)) (record { refusal = 7; place = 5 }) (record { refusal = 0; place = 0 }))))
+    cond (ltb sw (s * setWidth)) (record { refusal = 7; place = 2 })
+    (cond (ltb nw (n * nameWidth)) (record { refusal = 7; place = 3 })
+    (cond (ltb pw (p * packetWidth)) (record { refusal = 7; place = 4 })
+    (cond (ltb vw (v * valueWidth)) (record { refusal = 7; place = 5 }) (record { refusal = 0; place = 0 }))))
 
 -- the tables are left as the outcome says
 pub record Leaves (o : Outcome) (words : Sizes) (t : Tables) : Type 0 where
@@ -102,7 +103,7 @@ pub record Leaves (o : Outcome) (words : Sizes) (t : Tables) : Type 0 where
 
 -- tables 2 to 5 are 0 behind their rows, and as they were before
 pub record ClearedBehind (rows : Parsed) (before after : FourTables) : Type 0 where
-  pub sets : after .sets ≡ clearedFrom (rows .sets * 3) (before .sets)
-  pub names : after .names ≡ clearedFrom (rows .names * 4) (before .names)
-  pub packets : after .packets ≡ clearedFrom (rows .packets * 3) (before .packets)
-  pub values : after .values ≡ clearedFrom (rows .values * 3) (before .values)
+  pub sets : after .sets ≡ clearedFrom (rows .sets * setWidth) (before .sets)
+  pub names : after .names ≡ clearedFrom (rows .names * nameWidth) (before .names)
+  pub packets : after .packets ≡ clearedFrom (rows .packets * packetWidth) (before .packets)
+  pub values : after .values ≡ clearedFrom (rows .values * valueWidth) (before .values)

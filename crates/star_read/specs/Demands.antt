@@ -4,6 +4,7 @@ use mathlib.Core.Logic.{_⊎_, _↔_}
 use mathlib.Core.List.{List, [], _∷_, _++_}
 use Prim.Native.Nat.{ℕ, _*_, _≤_, _<_}
 use lib.ListN.{length}
+use Rattle.star_rows.specs.Widths.{tokenWidth, setWidth, nameWidth, packetWidth, valueWidth}
 use Rattle.star_text.specs.Bytes.{mostBytes}
 use Rattle.star_lex.specs.Tokens.{Token, Placed, Each}
 use Rattle.star_lex.specs.Split.{tokensOf}
@@ -27,16 +28,16 @@ pub record Begins (p : List Token) : Type 0 where
 
 -- tables 2 to 5 have room for rows
 pub record Room (words : Sizes) (rows : Rows) : Type 0 where
-  pub sets : length (rows .sets) * 3 ≤ words .sets
-  pub names : length (rows .names) * 4 ≤ words .names
-  pub packets : length (rows .packets) * 3 ≤ words .packets
-  pub values : length (rows .values) * 3 ≤ words .values
+  pub sets : length (rows .sets) * setWidth ≤ words .sets
+  pub names : length (rows .names) * nameWidth ≤ words .names
+  pub packets : length (rows .packets) * packetWidth ≤ words .packets
+  pub values : length (rows .values) * valueWidth ≤ words .values
 
 -- a file within the size limit that splits into these tokens, and a table 1 with room for them
 pub record Tokenized (file : List ℕ) (words : Sizes) (ps : List Placed) : Type 0 where
   pub small : length file ≤ mostBytes
   pub splits : tokensOf file ≡ Split.accepted ps
-  pub room : length ps * 3 ≤ words .tokens
+  pub room : length ps * tokenWidth ≤ words .tokens
 
 -- such a file, and tables 2 to 5 with room for the rows of its reading, if it has one
 pub record Fair (file : List ℕ) (words : Sizes) (ps : List Placed) : Type 0 where
@@ -127,18 +128,18 @@ pub data Bad (file : List ℕ) (ps : List Placed) : (number place : ℕ) → Typ
 
 -- the lowest of tables 2 to 5 that is too short for its rows
 pub data Short (words : Sizes) (rows : Rows) : (table : ℕ) → Type 0 where
-  sets : words .sets < length (rows .sets) * 3 → Short words rows 2
-  names : length (rows .sets) * 3 ≤ words .sets → words .names < length (rows .names) * 4 → Short words rows 3
-  packets : length (rows .sets) * 3 ≤ words .sets → length (rows .names) * 4 ≤ words .names → words .packets < length (rows .packets) * 3
+  sets : words .sets < length (rows .sets) * setWidth → Short words rows 2
+  names : length (rows .sets) * setWidth ≤ words .sets → words .names < length (rows .names) * nameWidth → Short words rows 3
+  packets : length (rows .sets) * setWidth ≤ words .sets → length (rows .names) * nameWidth ≤ words .names → words .packets < length (rows .packets) * packetWidth
       → Short words rows 4
-  values : length (rows .sets) * 3 ≤ words .sets → length (rows .names) * 4 ≤ words .names → length (rows .packets) * 3 ≤ words .packets
-      → words .values < length (rows .values) * 3 → Short words rows 5
+  values : length (rows .sets) * setWidth ≤ words .sets → length (rows .names) * nameWidth ≤ words .names → length (rows .packets) * packetWidth ≤ words .packets
+      → words .values < length (rows .values) * valueWidth → Short words rows 5
 
 -- what reading gives, of any file and any tables: the refusals in order of checking, or the rows of the reading
 pub data Settles (file : List ℕ) (words : Sizes) : Outcome → Type 0 where
   over-size : mostBytes < length file → Settles file words (refused 1 0)
   unsplit : (n place : ℕ) → length file ≤ mostBytes → tokensOf file ≡ Split.refused n place → Settles file words (refused n place)
-  no-token-room : (ps : List Placed) → length file ≤ mostBytes → tokensOf file ≡ Split.accepted ps → words .tokens < length ps * 3
+  no-token-room : (ps : List Placed) → length file ≤ mostBytes → tokensOf file ≡ Split.accepted ps → words .tokens < length ps * tokenWidth
       → Settles file words (refused 7 1)
   no-reading : (ps : List Placed) (n place : ℕ) → Tokenized file words ps → (Reading (tokensOnly ps) → ⊥) → Bad file ps n place
       → Settles file words (refused n place)

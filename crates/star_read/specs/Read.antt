@@ -5,6 +5,7 @@ use mathlib.Core.List.{List, [], _∷_, map}
 use Prim.Native.Nat.{ℕ, zero, suc, _*_}
 use lib.Dec.{ltb}
 use lib.ListN.{length}
+use Rattle.star_rows.specs.Widths.{setWidth, nameWidth, packetWidth, valueWidth}
 use Rattle.star_lex.specs.Tokens.{Token, Placed}
 use Rattle.star_lex.specs.Split.{Split}
 use Rattle.star_lex.specs.Split as Split
@@ -47,10 +48,10 @@ grammarOf size ps = decide size ps (firstRepeat nothing (tokensOnly ps)) (run 8 
 unfoldable pub fitting : Sizes → Outcome → Outcome
 fitting words (refused n place) = refused n place
 fitting words (accepted ps rows) =
-    cond (ltb (words .sets) (length (rows .sets) * 3)) (refused 7 2)
-    (cond (ltb (words .names) (length (rows .names) * 4)) (refused 7 3)
-    (cond (ltb (words .packets) (length (rows .packets) * 3)) (refused 7 4)
-    (cond (ltb (words .values) (length (rows .values) * 3)) (refused 7 5) (accepted ps rows))))
+    cond (ltb (words .sets) (length (rows .sets) * setWidth)) (refused 7 2)
+    (cond (ltb (words .names) (length (rows .names) * nameWidth)) (refused 7 3)
+    (cond (ltb (words .packets) (length (rows .packets) * packetWidth)) (refused 7 4)
+    (cond (ltb (words .values) (length (rows .values) * valueWidth)) (refused 7 5) (accepted ps rows))))
 
 -- after the refusals of the tokens
 unfoldable pub after : (size : ℕ) → Sizes → Split → Outcome

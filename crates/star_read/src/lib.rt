@@ -47,25 +47,25 @@ fn place_of(file: &[u8], tokens: &[u32], count: usize, before: usize) -> u32
 fn room(rows: Parsed, sets: usize, names: usize, packets: usize, values: usize) -> Judged
     ensures { λ r. ⌜ r ≡ roomOf (rows .sets) (rows .names) (rows .packets) (rows .values) sets names packets values ⌝ }
 {
-    if sets / 3 < rows.sets as usize {
+    if sets / star_rows::SET_WIDTH < rows.sets as usize {
         return Judged {
             refusal: 7,
             place: 2,
         };
     }
-    if names / 4 < rows.names as usize {
+    if names / star_rows::NAME_WIDTH < rows.names as usize {
         return Judged {
             refusal: 7,
             place: 3,
         };
     }
-    if packets / 3 < rows.packets as usize {
+    if packets / star_rows::PACKET_WIDTH < rows.packets as usize {
         return Judged {
             refusal: 7,
             place: 4,
         };
     }
-    if values / 3 < rows.values as usize {
+    if values / star_rows::VALUE_WIDTH < rows.values as usize {
         return Judged {
             refusal: 7,
             place: 5,
@@ -153,10 +153,10 @@ fn clear_behind(
     ensures { λ _. ⌜ ClearedBehind rows (four (now (sets .entry)) (now (names .entry)) (now (packets .entry)) (now (values .entry)))
         (four (now (sets .exit)) (now (names .exit)) (now (packets .exit)) (now (values .exit))) ⌝ }
 {
-    star_rows::clear_from(sets, rows.sets as usize * 3);
-    star_rows::clear_from(names, rows.names as usize * 4);
-    star_rows::clear_from(packets, rows.packets as usize * 3);
-    star_rows::clear_from(values, rows.values as usize * 3);
+    star_rows::clear_from(sets, rows.sets as usize * star_rows::SET_WIDTH);
+    star_rows::clear_from(names, rows.names as usize * star_rows::NAME_WIDTH);
+    star_rows::clear_from(packets, rows.packets as usize * star_rows::PACKET_WIDTH);
+    star_rows::clear_from(values, rows.values as usize * star_rows::VALUE_WIDTH);
 }
 
 // Reads the rows of a file whose tokens table 1 holds; `taken` of them stand before the first that is taken.

@@ -3,6 +3,17 @@ ghost use mathlib.Core.Path.{_≡_};
 ghost use mathlib.Core.List.{[], _∷_};
 ghost use Rattle.star_rows.specs.Rows.{putRow, clearedFrom};
 
+// The words of a row of each of the five tables.
+pub const TOKEN_WIDTH: usize = 3;
+
+pub const SET_WIDTH: usize = 3;
+
+pub const NAME_WIDTH: usize = 4;
+
+pub const PACKET_WIDTH: usize = 3;
+
+pub const VALUE_WIDTH: usize = 3;
+
 // Writes a row of three words as row `n` of the table, counted from 0, if it fits.
 pub fn put3(table: &mut [u32], n: usize, a: u32, b: u32, c: u32)
     ensures { λ _. ⌜ now (table .exit) ≡ putRow (a ∷ b ∷ c ∷ []) n (now (table .entry)) ⌝ }

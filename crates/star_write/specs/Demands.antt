@@ -4,6 +4,7 @@ use mathlib.Core.Path.{_≡_}
 use mathlib.Core.List.{List}
 use Prim.Native.Nat.{ℕ, _*_, _≤_}
 use lib.ListN.{length, replicate}
+use Rattle.star_rows.specs.Widths.{tokenWidth}
 use Rattle.star_lex.specs.Tokens.{Placed}
 use Rattle.star_grammar.specs.Tables.{Rows}
 use Rattle.star_read.specs.Read.{Sizes, tokensOnly, readOf}
@@ -23,12 +24,12 @@ pub record ReadsBack (plain : List ℕ) (words : Sizes) (ps : List Placed) (rows
 abbrev pub RoundTrip : Type 0
 RoundTrip = (file : List ℕ) (words : Sizes) (room : ℕ) (ps : List Placed) (rows : Rows) (plain : List ℕ)
     → writeOf file words room ≡ written ps rows plain
-    → (others : Sizes) → length ps * 3 ≤ others .tokens → Room others rows → ReadsBack plain others ps rows
+    → (others : Sizes) → length ps * tokenWidth ≤ others .tokens → Room others rows → ReadsBack plain others ps rows
 
 abbrev pub WritesAgain : Type 0
 WritesAgain = (file : List ℕ) (words : Sizes) (room : ℕ) (ps : List Placed) (rows : Rows) (plain : List ℕ)
     → writeOf file words room ≡ written ps rows plain
-    → (others : Sizes) → length ps * 3 ≤ others .tokens → Room others rows → (space : ℕ) → length plain ≤ space
+    → (others : Sizes) → length ps * tokenWidth ≤ others .tokens → Room others rows → (space : ℕ) → length plain ≤ space
     → (tokens : List Placed) × (writeOf plain others space ≡ written tokens rows plain)
 
 -- the numbers that the writer gives, each with its places: reading's, 1 at 0, and 7 at 6
