@@ -44,9 +44,11 @@ run-end-requires c κs = search needs
 returns-2 : tie.Need-returns-2
 unfolding lexeme foundAt
 returns-2 c =
+    let at-shared-slice-known = c .before .before .before .before .before in
+    let start = at-shared-slice-known .before in
     rw ((sym (white (c .before .before .before)) ∙ c .before .before .if1 .left), eq-eqb _ 35 (c .before .if2 .taken))
-    (ap Gap (c .run-end .ensures ∙ ap (λ r. (c .before .before .before .before .before .before .args .at) + 1 + length r) (run-line (c .before .before .before .before .before .before .pre .1) (drop ((c .before .before .before .before .before .before .args .at) + 1) (c .before .before .before .before .before .before .args .file .now))
-    (λ i. rw getD-drop (omega (arith, c .before .before .before .before .before .shared-slice-known .given ((c .before .before .before .before .before .before .args .at) + 1 + i)))))))
+    (ap Gap (c .run-end .ensures ∙ ap (λ r. (start .args .at) + 1 + length r) (run-line (start .pre .1) (drop ((start .args .at) + 1) (start .args .file .now))
+    (λ i. rw getD-drop (omega (arith, at-shared-slice-known .shared-slice-known .given ((start .args .at) + 1 + i)))))))
 
 opens-field-requires : tie.Need-opens-field-requires
 opens-field-requires c κs = search needs
@@ -60,30 +62,46 @@ returns-3 c = rw ((sym (white (c .before .before .before .before .before)) ∙ c
 
 quoted-string-requires : tie.Need-quoted-string-requires
 unfolding opening
-quoted-string-requires c κs = (c .before .before .before .before .before .before .before .before .pre .0, (refl, (sym (white (c .before .before .before .before .before)) ∙ c .before .before .before .before .if1 .left, c .before .before .before .before .before .before .before .before .pre .1)))
+quoted-string-requires c κs =
+    let start = c .before .before .before .before .before .before .before .before in
+    (start .pre .0, (refl, (sym (white (c .before .before .before .before .before)) ∙ c .before .before .before .before .if1 .left, start .pre .1)))
 
 returns-4 : tie.Need-returns-4
 unfolding lexeme foundAt
 returns-4 c =
-    rw ((sym (white (c .before .before .before .before .before .before)) ∙ c .before .before .before .before .before .if1 .left), ne-eqb _ 35 (c .before .before .before .before .if2 .left), (sym (c .before .before .before .opens-field .ensures) ∙ c .before .before .if3 .left), eq-eqb _ 39 (c .before .if4 .taken))
-    (c .quoted-string .ensures ∙ ap (λ n. foundAt (c .before .before .before .before .before .before .before .before .before .args .at) (quotedLexeme 9 (quoted n (drop ((c .before .before .before .before .before .before .before .before .before .args .at) + 1) (c .before .before .before .before .before .before .before .before .before .args .file .now))))) (c .before .if4 .taken))
+    let at-if1 = c .before .before .before .before .before in
+    let start = at-if1 .before .before .before .before in
+    rw ((sym (white (c .before .before .before .before .before .before)) ∙ at-if1 .if1 .left), ne-eqb _ 35 (c .before .before .before .before .if2 .left), (sym (c .before .before .before .opens-field .ensures) ∙ c .before .before .if3 .left), eq-eqb _ 39 (c .before .if4 .taken))
+    (c .quoted-string .ensures ∙ ap (λ n. foundAt (start .args .at) (quotedLexeme 9 (quoted n (drop ((start .args .at) + 1) (start .args .file .now))))) (c .before .if4 .taken))
 
 quoted-string-requires-2 : tie.Need-quoted-string-requires-2
 unfolding opening
-quoted-string-requires-2 c κs = (c .before .before .before .before .before .before .before .before .before .pre .0, (refl, (sym (white (c .before .before .before .before .before .before)) ∙ c .before .before .before .before .before .if1 .left, c .before .before .before .before .before .before .before .before .before .pre .1)))
+quoted-string-requires-2 c κs =
+    let at-if1 = c .before .before .before .before .before in
+    let start = at-if1 .before .before .before .before in
+    (start .pre .0, (refl, (sym (white (c .before .before .before .before .before .before)) ∙ at-if1 .if1 .left, start .pre .1)))
 
 returns-5 : tie.Need-returns-5
 unfolding lexeme foundAt
 returns-5 c =
-    rw ((sym (white (c .before .before .before .before .before .before .before)) ∙ c .before .before .before .before .before .before .if1 .left), ne-eqb _ 35 (c .before .before .before .before .before .if2 .left), (sym (c .before .before .before .before .opens-field .ensures) ∙ c .before .before .before .if3 .left), ne-eqb _ 39 (c .before .before .if4 .left), eq-eqb _ 34 (c .before .if5 .taken))
-    (c .quoted-string2 .ensures ∙ ap (λ n. foundAt (c .before .before .before .before .before .before .before .before .before .before .args .at) (quotedLexeme 10 (quoted n (drop ((c .before .before .before .before .before .before .before .before .before .before .args .at) + 1) (c .before .before .before .before .before .before .before .before .before .before .args .file .now))))) (c .before .if5 .taken))
+    let at-if2 = c .before .before .before .before .before in
+    let at-if1 = at-if2 .before in
+    let start = at-if1 .before .before .before .before in
+    rw ((sym (white (c .before .before .before .before .before .before .before)) ∙ at-if1 .if1 .left), ne-eqb _ 35 (at-if2 .if2 .left), (sym (c .before .before .before .before .opens-field .ensures) ∙ c .before .before .before .if3 .left), ne-eqb _ 39 (c .before .before .if4 .left), eq-eqb _ 34 (c .before .if5 .taken))
+    (c .quoted-string2 .ensures ∙ ap (λ n. foundAt (start .args .at) (quotedLexeme 10 (quoted n (drop ((start .args .at) + 1) (start .args .file .now))))) (c .before .if5 .taken))
 
 word-at-requires : tie.Need-word-at-requires
-word-at-requires c κs = (c .before .before .before .before .before .before .before .before .before .pre .0, (sym (white (c .before .before .before .before .before .before)) ∙ c .before .before .before .before .before .if1 .left, c .before .before .before .before .before .before .before .before .before .pre .1))
+word-at-requires c κs =
+    let at-if1 = c .before .before .before .before .before in
+    let start = at-if1 .before .before .before .before in
+    (start .pre .0, (sym (white (c .before .before .before .before .before .before)) ∙ at-if1 .if1 .left, start .pre .1))
 
 returns-6 : tie.Need-returns-6
 unfolding lexeme foundAt
-returns-6 c = rw ((sym (white (c .before .before .before .before .before .before .before)) ∙ c .before .before .before .before .before .before .if1 .left), ne-eqb _ 35 (c .before .before .before .before .before .if2 .left), (sym (c .before .before .before .before .opens-field .ensures) ∙ c .before .before .before .if3 .left), ne-eqb _ 39 (c .before .before .if4 .left), ne-eqb _ 34 (c .before .if5 .left)) (c .word-at .ensures)
+returns-6 c =
+    let at-if2 = c .before .before .before .before .before in
+    let at-if1 = at-if2 .before in
+    rw ((sym (white (c .before .before .before .before .before .before .before)) ∙ at-if1 .if1 .left), ne-eqb _ 35 (at-if2 .if2 .left), (sym (c .before .before .before .before .opens-field .ensures) ∙ c .before .before .before .if3 .left), ne-eqb _ 39 (c .before .before .if4 .left), ne-eqb _ 34 (c .before .if5 .left)) (c .word-at .ensures)
 
 pub lexeme-spec : {M : Type 1} → statement M
 lexeme-spec =

@@ -25,8 +25,9 @@ same-length c = search needs
 returns : tie.Need-returns
 unfolding tableOf fitting
 returns c =
-    let t = tokens-too-long (c .before .before .before .before .before .before .before .args .file .now) (length (c .before .before .before .before .before .before .before .args .table .now)) (c .before .before .before .before .if1 .taken) in
-    (c .before .before .refuse .ensures .0 ∙ sym (ap answerOf t), c .before .before .refuse .ensures .1 ∙ sym (ap (λ s. tableOf s (length (c .before .before .before .before .before .before .before .args .table .now))) t))
+    let start = c .before .before .before .before .before .before .before in
+    let t = tokens-too-long (start .args .file .now) (length (start .args .table .now)) (c .before .before .before .before .if1 .taken) in
+    (c .before .before .refuse .ensures .0 ∙ sym (ap answerOf t), c .before .before .refuse .ensures .1 ∙ sym (ap (λ s. tableOf s (length (start .args .table .now))) t))
 
 class-table-requires : tie.Need-class-table-requires
 class-table-requires c κs = search needs
@@ -39,8 +40,9 @@ start c = c .before .before .before .before .before .before
 
 first-bad : (c : tie.After-first-refused) → c .first-refused .result ≡ firstRefused (start c .args .file .now)
 first-bad c =
+    let at-shared-slice-known = c .before .before .before .before .before in
     c .first-refused .ensures
-    ∙ first-refused-is (c .before .before .class-table .ensures) _ (λ i. omega (arith, c .before .before .before .before .before .shared-slice-known .given i))
+    ∙ first-refused-is (c .before .before .class-table .ensures) _ (λ i. omega (arith, at-shared-slice-known .shared-slice-known .given i))
 
 cast-refuse : tie.Need-cast-refuse
 cast-refuse c = search needs
@@ -54,9 +56,11 @@ same-length-2 c = search needs
 returns-2 : tie.Need-returns-2
 unfolding tableOf fitting
 returns-2 c =
-    let t = tokens-refused-byte (c .before .before .before .before .before .before .before .before .before .before .before .args .file .now) (length (c .before .before .before .before .before .before .before .before .before .before .before .args .table .now)) (c .before .before .before .before .before .before .before .before .if1 .left) (rw (first-bad (c .before .before .before .before .before)) at (c .before .before .before .before .if2 .taken)) in (
+    let at-if1 = c .before .before .before .before .before .before .before .before in
+    let start = at-if1 .before .before .before in
+    let t = tokens-refused-byte (start .args .file .now) (length (start .args .table .now)) (at-if1 .if1 .left) (rw (first-bad (c .before .before .before .before .before)) at (c .before .before .before .before .if2 .taken)) in (
       c .before .before .refuse2 .ensures .0 ∙ ap (λ n. answerOf (refused 2 n)) (first-bad (c .before .before .before .before .before)) ∙ sym (ap answerOf t),
-      c .before .before .refuse2 .ensures .1 ∙ sym (ap (λ s. tableOf s (length (c .before .before .before .before .before .before .before .before .before .before .before .args .table .now))) t),
+      c .before .before .refuse2 .ensures .1 ∙ sym (ap (λ s. tableOf s (length (start .args .table .now))) t),
     )
 
 split-requires : tie.Need-split-requires
@@ -71,9 +75,13 @@ same-length-3 c = search needs
 returns-3 : tie.Need-returns-3
 unfolding tableOf fitting
 returns-3 c =
-    let t = tokens-split (c .before .before .before .before .before .before .before .before .before .before .before .before .before .before .before .before .before .before .args .file .now) (length (c .before .before .before .before .before .before .before .before .before .before .before .before .before .before .before .before .before .before .args .table .now)) (c .before .before .before .before .before .before .before .before .before .before .before .before .before .before .before .if1 .left) (rw (first-bad (c .before .before .before .before .before .before .before .before .before .before .before .before)) at (c .before .before .before .before .before .before .before .before .before .before .before .if2 .left)) ∙ ap (fitting (length (c .before .before .before .before .before .before .before .before .before .before .before .before .before .before .before .before .before .before .args .table .now))) (answer-refused _ (c .before .before .before .before .before .before .before .before .split .result) (c .before .before .before .before .before .before .before .before .split .ensures .0) (c .before .before .before .before .if3 .taken)) in (
+    let at-split = c .before .before .before .before .before .before .before .before in
+    let at-if2 = at-split .before .before .before in
+    let at-if1 = at-if2 .before .before .before .before in
+    let start = at-if1 .before .before .before in
+    let t = tokens-split (start .args .file .now) (length (start .args .table .now)) (at-if1 .if1 .left) (rw (first-bad (c .before .before .before .before .before .before .before .before .before .before .before .before)) at (at-if2 .if2 .left)) ∙ ap (fitting (length (start .args .table .now))) (answer-refused _ (at-split .split .result) (at-split .split .ensures .0) (c .before .before .before .before .if3 .taken)) in (
       c .before .before .refuse3 .ensures .0 ∙ sym (ap answerOf t),
-      c .before .before .refuse3 .ensures .1 ∙ ap (λ n. replicate n 0) (c .before .before .before .before .before .before .before .before .split .kept .1 .1 .0) ∙ sym (ap (λ s. tableOf s (length (c .before .before .before .before .before .before .before .before .before .before .before .before .before .before .before .before .before .before .args .table .now))) t),
+      c .before .before .refuse3 .ensures .1 ∙ ap (λ n. replicate n 0) (at-split .split .kept .1 .1 .0) ∙ sym (ap (λ s. tableOf s (length (start .args .table .now))) t),
     )
 
 cast-count : tie.Need-cast-count
@@ -88,11 +96,16 @@ same-length-4 c = search needs
 returns-4 : tie.Need-returns-4
 unfolding tableOf fitting
 returns-4 c =
-    let (ps, q, r) = answer-accepted (c .before .before .before .before .before .before .before .before .before .before .before .before .before .before .before .before .before .before .before .before .args .file .now) (c .before .before .before .before .before .before .before .before .before .before .split .result) (c .before .before .before .before .before .before .before .before .before .before .split .ensures .0) (c .before .before .before .before .before .before .if3 .left) in
-    let k : length (c .before .before .before .before .before .before .before .before .before .before .split .last .1 .1 .0) ≡ (length (c .before .before .before .before .before .before .before .before .before .before .before .before .before .before .before .before .before .before .before .before .args .table .now)) = c .before .before .before .before .before .before .before .before .before .before .split .kept .1 .1 .0 in
-    let t = tokens-split (c .before .before .before .before .before .before .before .before .before .before .before .before .before .before .before .before .before .before .before .before .args .file .now) (length (c .before .before .before .before .before .before .before .before .before .before .before .before .before .before .before .before .before .before .before .before .args .table .now)) (c .before .before .before .before .before .before .before .before .before .before .before .before .before .before .before .before .before .if1 .left) (rw (first-bad (c .before .before .before .before .before .before .before .before .before .before .before .before .before .before)) at (c .before .before .before .before .before .before .before .before .before .before .before .before .before .if2 .left)) ∙ ap (fitting (length (c .before .before .before .before .before .before .before .before .before .before .before .before .before .before .before .before .before .before .before .before .args .table .now))) q ∙ fitting-full (length (c .before .before .before .before .before .before .before .before .before .before .before .before .before .before .before .before .before .before .before .before .args .table .now)) ps (omega (arith, c .before .before .before .before .if4 .taken)) in (
+    let at-if3 = c .before .before .before .before .before .before in
+    let at-split = at-if3 .before .before .before .before in
+    let at-if2 = at-split .before .before .before in
+    let at-if1 = at-if2 .before .before .before .before in
+    let start = at-if1 .before .before .before in
+    let (ps, q, r) = answer-accepted (start .args .file .now) (at-split .split .result) (at-split .split .ensures .0) (at-if3 .if3 .left) in
+    let k : length (at-split .split .last .1 .1 .0) ≡ (length (start .args .table .now)) = at-split .split .kept .1 .1 .0 in
+    let t = tokens-split (start .args .file .now) (length (start .args .table .now)) (at-if1 .if1 .left) (rw (first-bad (c .before .before .before .before .before .before .before .before .before .before .before .before .before .before)) at (at-if2 .if2 .left)) ∙ ap (fitting (length (start .args .table .now))) q ∙ fitting-full (length (start .args .table .now)) ps (omega (arith, c .before .before .before .before .if4 .taken)) in (
       c .before .before .refuse4 .ensures .0 ∙ sym (ap answerOf t),
-      c .before .before .refuse4 .ensures .1 ∙ ap (λ n. replicate n 0) k ∙ sym (ap (λ s. tableOf s (length (c .before .before .before .before .before .before .before .before .before .before .before .before .before .before .before .before .before .before .before .before .args .table .now))) t),
+      c .before .before .refuse4 .ensures .1 ∙ ap (λ n. replicate n 0) k ∙ sym (ap (λ s. tableOf s (length (start .args .table .now))) t),
     )
 
 mul-clear-from : tie.Need-mul-clear-from
@@ -107,15 +120,21 @@ same-length-5 c = search needs
 returns-5 : tie.Need-returns-5
 unfolding tableOf fitting
 returns-5 c =
-    let (ps, q, r) = answer-accepted (c .before .before .before .before .before .before .before .before .before .before .before .before .before .before .before .before .before .before .before .before .args .file .now) (c .before .before .before .before .before .before .before .before .before .before .split .result) (c .before .before .before .before .before .before .before .before .before .before .split .ensures .0) (c .before .before .before .before .before .before .if3 .left) in
-    let k : length (c .before .before .before .before .before .before .before .before .before .before .split .last .1 .1 .0) ≡ (length (c .before .before .before .before .before .before .before .before .before .before .before .before .before .before .before .before .before .before .before .before .args .table .now)) = c .before .before .before .before .before .before .before .before .before .before .split .kept .1 .1 .0 in
-    let t = tokens-split (c .before .before .before .before .before .before .before .before .before .before .before .before .before .before .before .before .before .before .before .before .args .file .now) (length (c .before .before .before .before .before .before .before .before .before .before .before .before .before .before .before .before .before .before .before .before .args .table .now)) (c .before .before .before .before .before .before .before .before .before .before .before .before .before .before .before .before .before .if1 .left) (rw (first-bad (c .before .before .before .before .before .before .before .before .before .before .before .before .before .before)) at (c .before .before .before .before .before .before .before .before .before .before .before .before .before .if2 .left)) ∙ ap (fitting (length (c .before .before .before .before .before .before .before .before .before .before .before .before .before .before .before .before .before .before .before .before .args .table .now))) q ∙ fitting-room (length (c .before .before .before .before .before .before .before .before .before .before .before .before .before .before .before .before .before .before .before .before .args .table .now)) ps (omega (arith, c .before .before .before .before .if4 .left)) in (
-      c .before .before .before .before .before .before .before .before .before .before .split .ensures .0 ∙ ap answerOf q ∙ sym (ap answerOf t),
+    let at-if4 = c .before .before .before .before in
+    let at-if3 = at-if4 .before .before in
+    let at-split = at-if3 .before .before .before .before in
+    let at-if2 = at-split .before .before .before in
+    let at-if1 = at-if2 .before .before .before .before in
+    let start = at-if1 .before .before .before in
+    let (ps, q, r) = answer-accepted (start .args .file .now) (at-split .split .result) (at-split .split .ensures .0) (at-if3 .if3 .left) in
+    let k : length (at-split .split .last .1 .1 .0) ≡ (length (start .args .table .now)) = at-split .split .kept .1 .1 .0 in
+    let t = tokens-split (start .args .file .now) (length (start .args .table .now)) (at-if1 .if1 .left) (rw (first-bad (c .before .before .before .before .before .before .before .before .before .before .before .before .before .before)) at (at-if2 .if2 .left)) ∙ ap (fitting (length (start .args .table .now))) q ∙ fitting-room (length (start .args .table .now)) ps (omega (arith, at-if4 .if4 .left)) in (
+      at-split .split .ensures .0 ∙ ap answerOf q ∙ sym (ap answerOf t),
       c .before .before .clear-from .ensures
-          ∙ ap (λ n. clearedFrom (n * 3) (c .before .before .before .before .before .before .before .before .before .before .split .last .1 .1 .0)) r
-          ∙ ap (clearedFrom (length ps * 3)) (c .before .before .before .before .before .before .before .before .before .before .split .ensures .1 ps q)
-          ∙ stored-holding 3 tokenRow row-wide (omega arith) ps (c .before .before .before .before .before .before .before .before .before .before .before .before .before .before .before .before .before .before .before .before .args .table .now) (omega (arith, c .before .before .before .before .if4 .left))
-          ∙ sym (ap (λ s. tableOf s (length (c .before .before .before .before .before .before .before .before .before .before .before .before .before .before .before .before .before .before .before .before .args .table .now))) t),
+          ∙ ap (λ n. clearedFrom (n * 3) (at-split .split .last .1 .1 .0)) r
+          ∙ ap (clearedFrom (length ps * 3)) (at-split .split .ensures .1 ps q)
+          ∙ stored-holding 3 tokenRow row-wide (omega arith) ps (start .args .table .now) (omega (arith, at-if4 .if4 .left))
+          ∙ sym (ap (λ s. tableOf s (length (start .args .table .now))) t),
     )
 
 pub read-tokens-spec : {M : Type 1} → statement M

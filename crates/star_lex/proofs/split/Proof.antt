@@ -49,12 +49,18 @@ enum-known-found c = search needs
 
 loop-less : tie.Need-loop-less Inv-loop μ-loop
 loop-less c =
-    let t = turn-gap (c .before .before .before .before .before .before .before .before .before .before .args .file .now) (c .before .before .before .before .before .before .before .before .before .before .args .table .now) (c .before .before .before .before .before .before .before .loop .table) (c .before .before .before .before .before .before .before .loop .at) (c .before .before .before .before .before .before .before .loop .count) (c .before .before .before .before .before .before .before .loop .line) (c .before .before .before .before .before .before .before .loop .inv) (omega arith) (c .before .found .given .0 .0) (sym (c .before .before .before .before .before .lexeme .ensures) ∙ c .before .found .given .1) in
+    let at-lexeme = c .before .before .before .before .before in
+    let at-loop = at-lexeme .before .before in
+    let start = at-loop .before .before .before in
+    let t = turn-gap (start .args .file .now) (start .args .table .now) (at-loop .loop .table) (at-loop .loop .at) (at-loop .loop .count) (at-loop .loop .line) (at-loop .loop .inv) (omega arith) (c .before .found .given .0 .0) (sym (at-lexeme .lexeme .ensures) ∙ c .before .found .given .1) in
     omega (arith, t .1)
 
 loop-again : tie.Need-loop-again Inv-loop μ-loop
 loop-again c =
-    let t = turn-gap (c .before .before .before .before .before .before .before .before .before .before .args .file .now) (c .before .before .before .before .before .before .before .before .before .before .args .table .now) (c .before .before .before .before .before .before .before .loop .table) (c .before .before .before .before .before .before .before .loop .at) (c .before .before .before .before .before .before .before .loop .count) (c .before .before .before .before .before .before .before .loop .line) (c .before .before .before .before .before .before .before .loop .inv) (omega arith) (c .before .found .given .0 .0) (sym (c .before .before .before .before .before .lexeme .ensures) ∙ c .before .found .given .1) in
+    let at-lexeme = c .before .before .before .before .before in
+    let at-loop = at-lexeme .before .before in
+    let start = at-loop .before .before .before in
+    let t = turn-gap (start .args .file .now) (start .args .table .now) (at-loop .loop .table) (at-loop .loop .at) (at-loop .loop .count) (at-loop .loop .line) (at-loop .loop .inv) (omega arith) (c .before .found .given .0 .0) (sym (at-lexeme .lexeme .ensures) ∙ c .before .found .given .1) in
     rw (line-starts (c .before .before .before)) (t .0)
 
 enum-known-found-2 : tie.Need-enum-known-found-2 Inv-loop μ-loop
@@ -62,39 +68,59 @@ enum-known-found-2 c = search needs
 
 cast-put3 : tie.Need-cast-put3 Inv-loop μ-loop
 cast-put3 c =
-    let t = turn-token (c .before .before .before .before .before .before .before .before .before .before .before .args .file .now) (c .before .before .before .before .before .before .before .before .before .before .before .args .table .now) (c .before .before .before .before .before .before .before .before .loop .table) (c .before .before .before .before .before .before .before .before .loop .at) (c .before .before .before .before .before .before .before .before .loop .count) (c .before .before .before .before .before .before .before .before .loop .line) (c .before .before .before .before .before .before .before .before .loop .inv) (omega arith) (c .before .before .found2 .given .0 .0) (c .before .before .found2 .given .0 .1 .0) (c .before .before .found2 .given .0 .1 .1 .0) (c .before .before .found2 .given .0 .1 .1 .1 .0) (sym (c .before .before .before .before .before .before .lexeme .ensures) ∙ c .before .before .found2 .given .1) in
-    omega (arith, t .2, c .before .before .before .before .before .before .before .before .before .before .before .pre .0)
+    let at-lexeme = c .before .before .before .before .before .before in
+    let at-loop = at-lexeme .before .before in
+    let start = at-loop .before .before .before in
+    let t = turn-token (start .args .file .now) (start .args .table .now) (at-loop .loop .table) (at-loop .loop .at) (at-loop .loop .count) (at-loop .loop .line) (at-loop .loop .inv) (omega arith) (c .before .before .found2 .given .0 .0) (c .before .before .found2 .given .0 .1 .0) (c .before .before .found2 .given .0 .1 .1 .0) (c .before .before .found2 .given .0 .1 .1 .1 .0) (sym (at-lexeme .lexeme .ensures) ∙ c .before .before .found2 .given .1) in
+    omega (arith, t .2, start .pre .0)
 
 cast-put3-2 : tie.Need-cast-put3-2 Inv-loop μ-loop
 cast-put3-2 c =
-    let t = turn-token (c .before .before .before .before .before .before .before .before .before .before .before .args .file .now) (c .before .before .before .before .before .before .before .before .before .before .before .args .table .now) (c .before .before .before .before .before .before .before .before .loop .table) (c .before .before .before .before .before .before .before .before .loop .at) (c .before .before .before .before .before .before .before .before .loop .count) (c .before .before .before .before .before .before .before .before .loop .line) (c .before .before .before .before .before .before .before .before .loop .inv) (omega arith) (c .before .before .found2 .given .0 .0) (c .before .before .found2 .given .0 .1 .0) (c .before .before .found2 .given .0 .1 .1 .0) (c .before .before .found2 .given .0 .1 .1 .1 .0) (sym (c .before .before .before .before .before .before .lexeme .ensures) ∙ c .before .before .found2 .given .1) in
-    omega (arith, t .3, c .before .before .before .before .before .before .before .before .before .before .before .pre .0)
+    let at-lexeme = c .before .before .before .before .before .before in
+    let at-loop = at-lexeme .before .before in
+    let start = at-loop .before .before .before in
+    let t = turn-token (start .args .file .now) (start .args .table .now) (at-loop .loop .table) (at-loop .loop .at) (at-loop .loop .count) (at-loop .loop .line) (at-loop .loop .inv) (omega arith) (c .before .before .found2 .given .0 .0) (c .before .before .found2 .given .0 .1 .0) (c .before .before .found2 .given .0 .1 .1 .0) (c .before .before .found2 .given .0 .1 .1 .1 .0) (sym (at-lexeme .lexeme .ensures) ∙ c .before .before .found2 .given .1) in
+    omega (arith, t .3, start .pre .0)
 
 put3-requires : tie.Need-put3-requires Inv-loop μ-loop
 put3-requires c κs = search needs
 
 add-count : tie.Need-add-count Inv-loop μ-loop
 add-count c =
-    omega (arith, c .before .before .before .before .before .before .before .before .before .before .before .loop .inv .few)
+    let at-loop = c .before .before .before .before .before .before .before .before .before .before .before in
+    omega (arith, at-loop .loop .inv .few)
 
 loop-less-2 : tie.Need-loop-less-2 Inv-loop μ-loop
 loop-less-2 c =
-    let t = turn-token (c .before .before .before .before .before .before .before .before .before .before .before .before .before .before .args .file .now) (c .before .before .before .before .before .before .before .before .before .before .before .before .before .before .args .table .now) (c .before .before .before .before .before .before .before .before .before .before .before .loop .table) (c .before .before .before .before .before .before .before .before .before .before .before .loop .at) (c .before .before .before .before .before .before .before .before .before .before .before .loop .count) (c .before .before .before .before .before .before .before .before .before .before .before .loop .line) (c .before .before .before .before .before .before .before .before .before .before .before .loop .inv) (omega arith) (c .before .before .before .before .before .found2 .given .0 .0) (c .before .before .before .before .before .found2 .given .0 .1 .0) (c .before .before .before .before .before .found2 .given .0 .1 .1 .0) (c .before .before .before .before .before .found2 .given .0 .1 .1 .1 .0) (sym (c .before .before .before .before .before .before .before .before .before .lexeme .ensures) ∙ c .before .before .before .before .before .found2 .given .1) in
+    let at-found2 = c .before .before .before .before .before in
+    let at-lexeme = at-found2 .before .before .before .before in
+    let at-loop = at-lexeme .before .before in
+    let start = at-loop .before .before .before in
+    let t = turn-token (start .args .file .now) (start .args .table .now) (at-loop .loop .table) (at-loop .loop .at) (at-loop .loop .count) (at-loop .loop .line) (at-loop .loop .inv) (omega arith) (at-found2 .found2 .given .0 .0) (at-found2 .found2 .given .0 .1 .0) (at-found2 .found2 .given .0 .1 .1 .0) (at-found2 .found2 .given .0 .1 .1 .1 .0) (sym (at-lexeme .lexeme .ensures) ∙ at-found2 .found2 .given .1) in
     omega (arith, t .1)
 
 loop-again-2 : tie.Need-loop-again-2 Inv-loop μ-loop
 loop-again-2 c =
-    let t = turn-token (c .before .before .before .before .before .before .before .before .before .before .before .before .before .before .args .file .now) (c .before .before .before .before .before .before .before .before .before .before .before .before .before .before .args .table .now) (c .before .before .before .before .before .before .before .before .before .before .before .loop .table) (c .before .before .before .before .before .before .before .before .before .before .before .loop .at) (c .before .before .before .before .before .before .before .before .before .before .before .loop .count) (c .before .before .before .before .before .before .before .before .before .before .before .loop .line) (c .before .before .before .before .before .before .before .before .before .before .before .loop .inv) (omega arith) (c .before .before .before .before .before .found2 .given .0 .0) (c .before .before .before .before .before .found2 .given .0 .1 .0) (c .before .before .before .before .before .found2 .given .0 .1 .1 .0) (c .before .before .before .before .before .found2 .given .0 .1 .1 .1 .0) (sym (c .before .before .before .before .before .before .before .before .before .lexeme .ensures) ∙ c .before .before .before .before .before .found2 .given .1) in
+    let at-found2 = c .before .before .before .before .before in
+    let at-lexeme = at-found2 .before .before .before .before in
+    let at-loop = at-lexeme .before .before in
+    let start = at-loop .before .before .before in
+    let t = turn-token (start .args .file .now) (start .args .table .now) (at-loop .loop .table) (at-loop .loop .at) (at-loop .loop .count) (at-loop .loop .line) (at-loop .loop .inv) (omega arith) (at-found2 .found2 .given .0 .0) (at-found2 .found2 .given .0 .1 .0) (at-found2 .found2 .given .0 .1 .1 .0) (at-found2 .found2 .given .0 .1 .1 .1 .0) (sym (at-lexeme .lexeme .ensures) ∙ at-found2 .found2 .given .1) in
     rw (c .before .before .put3 .ensures, line-starts (c .before .before .before .before .before .before .before)) (t .0)
 
 enum-known-found-3 : tie.Need-enum-known-found-3 Inv-loop μ-loop
 enum-known-found-3 c = search needs
 
 cast-t23 : tie.Need-cast-t23 Inv-loop μ-loop
-cast-t23 c = omega (arith, c .before .before .before .before .before .before .before .before .before .before .pre .0)
+cast-t23 c =
+    let start = c .before .before .before .before .before .before .before .before .before .before in
+    omega (arith, start .pre .0)
 
 same-length : tie.Need-same-length Inv-loop μ-loop
-same-length c = ap length (c .before .before .before .before .before .before .before .loop .inv .rows) ∙ length-stored 3 tokenRow row-wide (omega arith) (c .before .before .before .before .before .before .before .loop .inv .done) (c .before .before .before .before .before .before .before .before .before .before .args .table .now)
+same-length c =
+    let at-loop = c .before .before .before .before .before .before .before in
+    let start = at-loop .before .before .before in
+    ap length (at-loop .loop .inv .rows) ∙ length-stored 3 tokenRow row-wide (omega arith) (at-loop .loop .inv .done) (start .args .table .now)
 
 -- the answer of an accepted file
 abbrev answer : ℕ → Tokens
@@ -103,7 +129,10 @@ answer n = record { refusal = 0; place = 0; count = n }
 returns : tie.Need-returns Inv-loop μ-loop
 unfolding answerOf
 returns c =
-    let f = turn-fault (c .before .before .before .before .before .before .before .before .before .before .args .file .now) (c .before .before .before .before .before .before .before .before .before .before .args .table .now) (c .before .before .before .before .before .before .before .loop .table) (c .before .before .before .before .before .before .before .loop .at) (c .before .before .before .before .before .before .before .loop .count) (c .before .before .before .before .before .before .before .loop .line) (c .before .before .before .before .before .before .before .loop .inv) (omega arith) (c .before .found3 .given .0 .0) (sym (c .before .before .before .before .before .lexeme .ensures) ∙ c .before .found3 .given .1) in
+    let at-lexeme = c .before .before .before .before .before in
+    let at-loop = at-lexeme .before .before in
+    let start = at-loop .before .before .before in
+    let f = turn-fault (start .args .file .now) (start .args .table .now) (at-loop .loop .table) (at-loop .loop .at) (at-loop .loop .count) (at-loop .loop .line) (at-loop .loop .inv) (omega arith) (c .before .found3 .given .0 .0) (sym (at-lexeme .lexeme .ensures) ∙ c .before .found3 .given .1) in
     (sym (ap answerOf f), λ ps e. impossible cc)
 
 cast-t24 : tie.Need-cast-t24 Inv-loop μ-loop
@@ -115,10 +144,11 @@ same-length-2 c = ap length (c .before .loop .inv .rows) ∙ length-stored 3 tok
 returns-2 : tie.Need-returns-2 Inv-loop μ-loop
 unfolding answerOf
 returns-2 c =
+    let start = c .before .before .before .before in
     let p = c .before .loop .inv in
-    let f = finished (c .before .before .before .before .args .file .now) (c .before .before .before .before .args .table .now) (c .before .loop .table) (c .before .loop .at) (c .before .loop .count) (c .before .loop .line) (c .before .loop .inv) (omega arith) in (
+    let f = finished (start .args .file .now) (start .args .table .now) (c .before .loop .table) (c .before .loop .at) (c .before .loop .count) (c .before .loop .line) (c .before .loop .inv) (omega arith) in (
       ap (λ n. answer n) (p .counted) ∙ sym (ap answerOf f),
-      λ ps e. let q : p .done ≡ ps = cc in p .rows ∙ ap (λ d. stored 3 tokenRow d (c .before .before .before .before .args .table .now)) q,
+      λ ps e. let q : p .done ≡ ps = cc in p .rows ∙ ap (λ d. stored 3 tokenRow d (start .args .table .now)) q,
     )
 
 pub split-spec : {M : Type 1} → statement M

@@ -17,12 +17,15 @@ field-end-requires : tie.Need-field-end-requires
 field-end-requires c κs = search needs
 
 returns : tie.Need-returns
-returns c = sym (field-open (c .before .before .before .args .file .now) (c .before .before .before .args .at) (c .before .before .before .pre .0) (sym (c .before .field-end .ensures) ∙ c .if1 .taken))
+returns c =
+    let start = c .before .before .before in
+    sym (field-open (start .args .file .now) (start .args .at) (start .pre .0) (sym (c .before .field-end .ensures) ∙ c .if1 .taken))
 
 add-white-at : tie.Need-add-white-at
 add-white-at c =
-    let w : c .before .field-end .result + 2 ≤ length (c .before .before .before .args .file .now) = rw (c .before .field-end .ensures)
-    (field-within (c .before .before .before .args .file .now) (c .before .before .before .args .at) (c .before .before .before .pre .0) (λ e. c .if1 .left (c .before .field-end .ensures ∙ e))) in
+    let start = c .before .before .before in
+    let w : c .before .field-end .result + 2 ≤ length (start .args .file .now) = rw (c .before .field-end .ensures)
+    (field-within (start .args .file .now) (start .args .at) (start .pre .0) (λ e. c .if1 .left (c .before .field-end .ensures ∙ e))) in
     omega arith
 
 white-at-requires : tie.Need-white-at-requires
@@ -33,19 +36,24 @@ add-t9 c = search needs
 
 add-t10 : tie.Need-add-t10
 add-t10 c =
-    let w : c .before .before .before .field-end .result + 2 ≤ length (c .before .before .before .before .before .args .file .now) = rw (c .before .before .before .field-end .ensures)
-    (field-within (c .before .before .before .before .before .args .file .now) (c .before .before .before .before .before .args .at) (c .before .before .before .before .before .pre .0) (λ e. c .before .before .if1 .left (c .before .before .before .field-end .ensures ∙ e))) in
+    let at-field-end = c .before .before .before in
+    let start = at-field-end .before .before in
+    let w : at-field-end .field-end .result + 2 ≤ length (start .args .file .now) = rw (at-field-end .field-end .ensures)
+    (field-within (start .args .file .now) (start .args .at) (start .pre .0) (λ e. c .before .before .if1 .left (at-field-end .field-end .ensures ∙ e))) in
     omega arith
 
 returns-2 : tie.Need-returns-2
 returns-2 c =
-    rw (c .before .before .before .field-end .ensures) (sym (field-found (c .before .before .before .before .before .args .file .now) (c .before .before .before .before .before .args .at) (c .before .before .before .before .before .pre .0) true (λ e. c .before .before .if1 .left (c .before .before .before .field-end .ensures ∙ e))
-    (ap (λ n. whiteNext (drop (n + 2) (c .before .before .before .before .before .args .file .now))) (sym (c .before .before .before .field-end .ensures)) ∙ sym (c .before .white-at .ensures) ∙ c .if2 .taken)))
+    let at-field-end = c .before .before .before in
+    let start = at-field-end .before .before in
+    rw (at-field-end .field-end .ensures) (sym (field-found (start .args .file .now) (start .args .at) (start .pre .0) true (λ e. c .before .before .if1 .left (at-field-end .field-end .ensures ∙ e))
+    (ap (λ n. whiteNext (drop (n + 2) (start .args .file .now))) (sym (at-field-end .field-end .ensures)) ∙ sym (c .before .white-at .ensures) ∙ c .if2 .taken)))
 
 returns-3 : tie.Need-returns-3
 returns-3 c =
-    sym (field-found (c .before .before .before .before .before .args .file .now) (c .before .before .before .before .before .args .at) (c .before .before .before .before .before .pre .0) false (λ e. c .before .before .if1 .left (c .before .before .before .field-end .ensures ∙ e))
-    (ap (λ n. whiteNext (drop (n + 2) (c .before .before .before .before .before .args .file .now))) (sym (c .before .before .before .field-end .ensures)) ∙ sym (c .before .white-at .ensures) ∙ c .if2 .left))
+    let start = c .before .before .before .before .before in
+    sym (field-found (start .args .file .now) (start .args .at) (start .pre .0) false (λ e. c .before .before .if1 .left (c .before .before .before .field-end .ensures ∙ e))
+    (ap (λ n. whiteNext (drop (n + 2) (start .args .file .now))) (sym (c .before .before .before .field-end .ensures)) ∙ sym (c .before .white-at .ensures) ∙ c .if2 .left))
 
 pub text-field-spec : {M : Type 1} → statement M
 text-field-spec =

@@ -41,16 +41,20 @@ lead-requires c κs = search needs
 
 add-t14 : tie.Need-add-t14
 add-t14 c =
-    let w : List ℕ = run (λ x. not (isWhite x)) (drop ((c .before .before .before .before .before .before .before .before .args .at) + 1) (c .before .before .before .before .before .before .before .before .args .file .now)) in
-    let p = word-part (c .before .before .before .before .before .before .before .before .pre .1 .1) (c .before .before .before .before .before .before .before .before .args .file .now) (c .before .before .before .before .before .before .before .before .args .at) (c .before .before .before .before .before .before .run-end .result) (c .before .before .before .before .before .before .before .before .pre .0) (λ i. omega (arith, c .before .before .before .before .before .before .before .shared-slice-known .given i)) (c .before .before .before .before .before .before .run-end .ensures) in
-    let e : c .before .before .before .before .word-kind .result ≡ Kind (c .before .before .kind .given .0 .0) = c .before .before .kind .given .1 in
+    let at-word-kind = c .before .before .before .before in
+    let at-run-end = at-word-kind .before .before in
+    let at-shared-slice-known = at-run-end .before in
+    let start = at-shared-slice-known .before in
+    let w : List ℕ = run (λ x. not (isWhite x)) (drop ((start .args .at) + 1) (start .args .file .now)) in
+    let p = word-part (start .pre .1 .1) (start .args .file .now) (start .args .at) (at-run-end .run-end .result) (start .pre .0) (λ i. omega (arith, at-shared-slice-known .shared-slice-known .given i)) (at-run-end .run-end .ensures) in
+    let e : at-word-kind .word-kind .result ≡ Kind (c .before .before .kind .given .0 .0) = c .before .before .kind .given .1 in
     omega (
       arith,
       c .lead .ensures,
-      word-lead (length w) (c .before .before .kind .given .0 .0) (getD (c .before .before .before .before .before .before .before .before .args .file .now) (c .before .before .before .before .before .before .before .before .args .at) 0 ∷ w)
-          (sym e ∙ c .before .before .before .before .word-kind .ensures (length w) ∙ ap (λ l. kindOf (wordLexeme (length w) l)) (p .1)),
-      run-length (λ x. not (isWhite x)) (drop ((c .before .before .before .before .before .before .before .before .args .at) + 1) (c .before .before .before .before .before .before .before .before .args .file .now)),
-      length-drop ((c .before .before .before .before .before .before .before .before .args .at) + 1) (c .before .before .before .before .before .before .before .before .args .file .now),
+      word-lead (length w) (c .before .before .kind .given .0 .0) (getD (start .args .file .now) (start .args .at) 0 ∷ w)
+          (sym e ∙ at-word-kind .word-kind .ensures (length w) ∙ ap (λ l. kindOf (wordLexeme (length w) l)) (p .1)),
+      run-length (λ x. not (isWhite x)) (drop ((start .args .at) + 1) (start .args .file .now)),
+      length-drop ((start .args .at) + 1) (start .args .file .now),
     )
 
 enum-known-number : tie.Need-enum-known-number
@@ -59,19 +63,26 @@ enum-known-number c = search needs
 returns : tie.Need-returns
 unfolding wordFrom
 returns c =
-    let w : List ℕ = run (λ x. not (isWhite x)) (drop ((c .before .before .before .before .before .before .before .before .args .at) + 1) (c .before .before .before .before .before .before .before .before .args .file .now)) in
-    let p = word-part (c .before .before .before .before .before .before .before .before .pre .1 .1) (c .before .before .before .before .before .before .before .before .args .file .now) (c .before .before .before .before .before .before .before .before .args .at) (c .before .before .before .before .before .before .run-end .result) (c .before .before .before .before .before .before .before .before .pre .0) (λ i. omega (arith, c .before .before .before .before .before .before .before .shared-slice-known .given i)) (c .before .before .before .before .before .before .run-end .ensures) in
-    let e : c .before .before .before .before .word-kind .result ≡ Kind (c .before .before .kind .given .0 .0) = c .before .before .kind .given .1 in
-    rw (c .lead .ensures, p .0) (sym (word-found (c .before .before .before .before .before .before .before .before .args .at) (length w) (c .before .before .kind .given .0 .0) (getD (c .before .before .before .before .before .before .before .before .args .file .now) (c .before .before .before .before .before .before .before .before .args .at) 0 ∷ w) refl
-    (sym e ∙ c .before .before .before .before .word-kind .ensures (length w) ∙ ap (λ l. kindOf (wordLexeme (length w) l)) (p .1))))
+    let at-word-kind = c .before .before .before .before in
+    let at-run-end = at-word-kind .before .before in
+    let at-shared-slice-known = at-run-end .before in
+    let start = at-shared-slice-known .before in
+    let w : List ℕ = run (λ x. not (isWhite x)) (drop ((start .args .at) + 1) (start .args .file .now)) in
+    let p = word-part (start .pre .1 .1) (start .args .file .now) (start .args .at) (at-run-end .run-end .result) (start .pre .0) (λ i. omega (arith, at-shared-slice-known .shared-slice-known .given i)) (at-run-end .run-end .ensures) in
+    let e : at-word-kind .word-kind .result ≡ Kind (c .before .before .kind .given .0 .0) = c .before .before .kind .given .1 in
+    rw (c .lead .ensures, p .0) (sym (word-found (start .args .at) (length w) (c .before .before .kind .given .0 .0) (getD (start .args .file .now) (start .args .at) 0 ∷ w) refl
+    (sym e ∙ at-word-kind .word-kind .ensures (length w) ∙ ap (λ l. kindOf (wordLexeme (length w) l)) (p .1))))
 
 returns-2 : tie.Need-returns-2
 unfolding wordFrom
 returns-2 c =
-    let w : List ℕ = run (λ x. not (isWhite x)) (drop ((c .before .before .before .before .before .before .before .args .at) + 1) (c .before .before .before .before .before .before .before .args .file .now)) in
-    let p = word-part (c .before .before .before .before .before .before .before .pre .1 .1) (c .before .before .before .before .before .before .before .args .file .now) (c .before .before .before .before .before .before .before .args .at) (c .before .before .before .before .before .run-end .result) (c .before .before .before .before .before .before .before .pre .0) (λ i. omega (arith, c .before .before .before .before .before .before .shared-slice-known .given i)) (c .before .before .before .before .before .run-end .ensures) in
+    let at-run-end = c .before .before .before .before .before in
+    let at-shared-slice-known = at-run-end .before in
+    let start = at-shared-slice-known .before in
+    let w : List ℕ = run (λ x. not (isWhite x)) (drop ((start .args .at) + 1) (start .args .file .now)) in
+    let p = word-part (start .pre .1 .1) (start .args .file .now) (start .args .at) (at-run-end .run-end .result) (start .pre .0) (λ i. omega (arith, at-shared-slice-known .shared-slice-known .given i)) (at-run-end .run-end .ensures) in
     let e : c .before .before .before .word-kind .result ≡ Ill (c .before .number .given .0 .0) = c .before .number .given .1 in
-    sym (word-ill (c .before .before .before .before .before .before .before .args .at) (length w) (c .before .number .given .0 .0) (getD (c .before .before .before .before .before .before .before .args .file .now) (c .before .before .before .before .before .before .before .args .at) 0 ∷ w)
+    sym (word-ill (start .args .at) (length w) (c .before .number .given .0 .0) (getD (start .args .file .now) (start .args .at) 0 ∷ w)
     (sym e ∙ c .before .before .before .word-kind .ensures (length w) ∙ ap (λ l. kindOf (wordLexeme (length w) l)) (p .1)))
 
 pub word-at-spec : {M : Type 1} → statement M

@@ -47,12 +47,13 @@ ends c =
 
 returns-2 : tie.Need-returns-2 Inv-loop μ-loop
 returns-2 c =
-    sym (quote-at _ _ (c .before .before .before .before .before .before .loop .at) _ (omega arith)
+    let at-loop = c .before .before .before .before .before .before in
+    sym (quote-at _ _ (at-loop .loop .at) _ (omega arith)
     ∙ (rw (
       sym (c .before .before .before .before .quote-closes .ensures) ∙ c .before .before .before .if1 .left,
       sym (ends (c .before)) ∙ c .if2 .taken,
     )))
-    ∙ c .before .before .before .before .before .before .loop .inv
+    ∙ at-loop .loop .inv
 
 add-at : tie.Need-add-at Inv-loop μ-loop
 add-at c = omega arith
@@ -62,12 +63,13 @@ loop-less c = omega arith
 
 loop-again : tie.Need-loop-again Inv-loop μ-loop
 loop-again c =
-    sym (quote-at _ _ (c .before .before .before .before .before .before .loop .at) _ (omega arith)
+    let at-loop = c .before .before .before .before .before .before in
+    sym (quote-at _ _ (at-loop .loop .at) _ (omega arith)
     ∙ (rw (
       sym (c .before .before .before .before .quote-closes .ensures) ∙ c .before .before .before .if1 .left,
       sym (ends (c .before)) ∙ c .if2 .left,
     )))
-    ∙ c .before .before .before .before .before .before .loop .inv
+    ∙ at-loop .loop .inv
 
 returns-3 : tie.Need-returns-3 Inv-loop μ-loop
 returns-3 c = sym (quote-over _ _ (c .before .loop .at) _ (omega arith)) ∙ c .before .loop .inv

@@ -20,7 +20,9 @@ begins-requires c κs = search needs
 
 returns : tie.Need-returns
 unfolding dataWord saveWord loopWord stopWord globalWord blockWord kindOf
-returns c = λ more. sym (ap kindOf (word-data more _ (sym (c .before .before .begins .ensures) ∙ c .before .if1 .taken) ∙ ap (blockWord more) (drop-of-length-le (c .before .before .before .before .before .args .word .now) (le-of-eq (c .if2 .taken)))))
+returns c =
+    let start = c .before .before .before .before .before in
+    λ more. sym (ap kindOf (word-data more _ (sym (c .before .before .begins .ensures) ∙ c .before .if1 .taken) ∙ ap (blockWord more) (drop-of-length-le (start .args .word .now) (le-of-eq (c .if2 .taken)))))
 
 sub-limit : tie.Need-sub-limit
 unfolding dataWord saveWord loopWord stopWord globalWord
@@ -31,8 +33,10 @@ limit-requires c κs = search needs
 
 returns-2 : tie.Need-returns-2
 unfolding dataWord saveWord loopWord stopWord globalWord
-returns-2 c = λ more.
-    let w = c .before .before .before .before .before .before .args .word .now in
+returns-2 c =
+    let start = c .before .before .before .before .before .before in
+    λ more.
+    let w = start .args .word .now in
     let l : 5 ≤ length w = after-long dataWord _ (sym (c .before .before .before .begins .ensures) ∙ c .before .before .if1 .taken) in
     c .limit .ensures more (drop 5 w) (length-drop 5 w)
     ∙ sym (ap kindOf (word-data more w (sym (c .before .before .before .begins .ensures) ∙ c .before .before .if1 .taken) ∙ block-some more (drop 5 w) (rw length-drop (omega arith))))
@@ -45,7 +49,10 @@ begins-requires-2 c κs = search needs
 
 returns-3 : tie.Need-returns-3
 unfolding dataWord saveWord loopWord stopWord globalWord frameWord kindOf
-returns-3 c = λ more. sym (ap kindOf (word-save more _ (sym (c .before .before .before .before .before .begins .ensures) ∙ c .before .before .before .before .if1 .left) (sym (c .before .before .begins2 .ensures) ∙ c .before .if3 .taken) ∙ ap (frameWord more) (drop-of-length-le (c .before .before .before .before .before .before .before .before .args .word .now) (le-of-eq (c .if4 .taken)))))
+returns-3 c =
+    let at-begins = c .before .before .before .before .before in
+    let start = at-begins .before .before .before in
+    λ more. sym (ap kindOf (word-save more _ (sym (at-begins .begins .ensures) ∙ c .before .before .before .before .if1 .left) (sym (c .before .before .begins2 .ensures) ∙ c .before .if3 .taken) ∙ ap (frameWord more) (drop-of-length-le (start .args .word .now) (le-of-eq (c .if4 .taken)))))
 
 sub-limit-2 : tie.Need-sub-limit-2
 unfolding dataWord saveWord loopWord stopWord globalWord
@@ -56,11 +63,15 @@ limit-requires-2 c κs = search needs
 
 returns-4 : tie.Need-returns-4
 unfolding dataWord saveWord loopWord stopWord globalWord
-returns-4 c = λ more.
-    let w = c .before .before .before .before .before .before .before .before .before .args .word .now in
+returns-4 c =
+    let at-if1 = c .before .before .before .before .before in
+    let at-begins = at-if1 .before in
+    let start = at-begins .before .before .before in
+    λ more.
+    let w = start .args .word .now in
     let l : 5 ≤ length w = after-long saveWord _ (sym (c .before .before .before .begins2 .ensures) ∙ c .before .before .if3 .taken) in
     c .limit2 .ensures more (drop 5 w) (length-drop 5 w)
-    ∙ sym (ap kindOf (word-save more w (sym (c .before .before .before .before .before .before .begins .ensures) ∙ c .before .before .before .before .before .if1 .left) (sym (c .before .before .before .begins2 .ensures) ∙ c .before .before .if3 .taken) ∙ frame-some more (drop 5 w) (rw length-drop (omega arith))))
+    ∙ sym (ap kindOf (word-save more w (sym (at-begins .begins .ensures) ∙ at-if1 .if1 .left) (sym (c .before .before .before .begins2 .ensures) ∙ c .before .before .if3 .taken) ∙ frame-some more (drop 5 w) (rw length-drop (omega arith))))
 
 slice-aggregate-begins-3 : tie.Need-slice-aggregate-begins-3
 slice-aggregate-begins-3 c = search needs
@@ -77,9 +88,14 @@ alone-requires c κs = search needs
 
 returns-5 : tie.Need-returns-5
 unfolding dataWord saveWord loopWord stopWord globalWord
-returns-5 c = λ more.
-    let w = c .before .before .before .before .before .before .before .before .before .before .before .args .word .now in
-    c .alone .ensures more loopWord (drop 5 w) (length-drop 5 w) ∙ sym (ap kindOf (word-loop more w (sym (c .before .before .before .before .before .before .before .before .begins .ensures) ∙ c .before .before .before .before .before .before .before .if1 .left) (sym (c .before .before .before .before .before .begins2 .ensures) ∙ c .before .before .before .before .if3 .left) (sym (c .before .before .begins3 .ensures) ∙ c .before .if5 .taken)))
+returns-5 c =
+    let at-begins2 = c .before .before .before .before .before in
+    let at-if1 = at-begins2 .before .before in
+    let at-begins = at-if1 .before in
+    let start = at-begins .before .before .before in
+    λ more.
+    let w = start .args .word .now in
+    c .alone .ensures more loopWord (drop 5 w) (length-drop 5 w) ∙ sym (ap kindOf (word-loop more w (sym (at-begins .begins .ensures) ∙ at-if1 .if1 .left) (sym (at-begins2 .begins2 .ensures) ∙ c .before .before .before .before .if3 .left) (sym (c .before .before .begins3 .ensures) ∙ c .before .if5 .taken)))
 
 slice-aggregate-begins-4 : tie.Need-slice-aggregate-begins-4
 slice-aggregate-begins-4 c = search needs
@@ -96,9 +112,16 @@ alone-requires-2 c κs = search needs
 
 returns-6 : tie.Need-returns-6
 unfolding dataWord saveWord loopWord stopWord globalWord
-returns-6 c = λ more.
-    let w = c .before .before .before .before .before .before .before .before .before .before .before .before .before .before .args .word .now in
-    c .alone2 .ensures more stopWord (drop 5 w) (length-drop 5 w) ∙ sym (ap kindOf (word-stop more w (sym (c .before .before .before .before .before .before .before .before .before .before .before .begins .ensures) ∙ c .before .before .before .before .before .before .before .before .before .before .if1 .left) (sym (c .before .before .before .before .before .before .before .before .begins2 .ensures) ∙ c .before .before .before .before .before .before .before .if3 .left) (sym (c .before .before .before .before .before .begins3 .ensures) ∙ c .before .before .before .before .if5 .left) (sym (c .before .before .begins4 .ensures) ∙ c .before .if6 .taken)))
+returns-6 c =
+    let at-begins3 = c .before .before .before .before .before in
+    let at-if3 = at-begins3 .before .before in
+    let at-begins2 = at-if3 .before in
+    let at-if1 = at-begins2 .before .before in
+    let at-begins = at-if1 .before in
+    let start = at-begins .before .before .before in
+    λ more.
+    let w = start .args .word .now in
+    c .alone2 .ensures more stopWord (drop 5 w) (length-drop 5 w) ∙ sym (ap kindOf (word-stop more w (sym (at-begins .begins .ensures) ∙ at-if1 .if1 .left) (sym (at-begins2 .begins2 .ensures) ∙ at-if3 .if3 .left) (sym (at-begins3 .begins3 .ensures) ∙ c .before .before .before .before .if5 .left) (sym (c .before .before .begins4 .ensures) ∙ c .before .if6 .taken)))
 
 slice-aggregate-begins-5 : tie.Need-slice-aggregate-begins-5
 slice-aggregate-begins-5 c = search needs
@@ -115,13 +138,30 @@ alone-requires-3 c κs = search needs
 
 returns-7 : tie.Need-returns-7
 unfolding dataWord saveWord loopWord stopWord globalWord
-returns-7 c = λ more.
-    let w = c .before .before .before .before .before .before .before .before .before .before .before .before .before .before .before .before .before .args .word .now in
-    c .alone3 .ensures more globalWord (drop 7 w) (length-drop 7 w) ∙ sym (ap kindOf (word-global more w (sym (c .before .before .before .before .before .before .before .before .before .before .before .before .before .before .begins .ensures) ∙ c .before .before .before .before .before .before .before .before .before .before .before .before .before .if1 .left) (sym (c .before .before .before .before .before .before .before .before .before .before .before .begins2 .ensures) ∙ c .before .before .before .before .before .before .before .before .before .before .if3 .left) (sym (c .before .before .before .before .before .before .before .before .begins3 .ensures) ∙ c .before .before .before .before .before .before .before .if5 .left) (sym (c .before .before .before .before .before .begins4 .ensures) ∙ c .before .before .before .before .if6 .left) (sym (c .before .before .begins5 .ensures) ∙ c .before .if7 .taken)))
+returns-7 c =
+    let at-begins4 = c .before .before .before .before .before in
+    let at-if5 = at-begins4 .before .before in
+    let at-begins3 = at-if5 .before in
+    let at-if3 = at-begins3 .before .before in
+    let at-begins2 = at-if3 .before in
+    let at-if1 = at-begins2 .before .before in
+    let at-begins = at-if1 .before in
+    let start = at-begins .before .before .before in
+    λ more.
+    let w = start .args .word .now in
+    c .alone3 .ensures more globalWord (drop 7 w) (length-drop 7 w) ∙ sym (ap kindOf (word-global more w (sym (at-begins .begins .ensures) ∙ at-if1 .if1 .left) (sym (at-begins2 .begins2 .ensures) ∙ at-if3 .if3 .left) (sym (at-begins3 .begins3 .ensures) ∙ at-if5 .if5 .left) (sym (at-begins4 .begins4 .ensures) ∙ c .before .before .before .before .if6 .left) (sym (c .before .before .begins5 .ensures) ∙ c .before .if7 .taken)))
 
 returns-8 : tie.Need-returns-8
 unfolding dataWord saveWord loopWord stopWord globalWord kindOf
-returns-8 c = λ more. sym (ap kindOf (word-ordinary more _ (record { no-data = sym (c .before .before .before .before .before .before .before .before .before .before .before .before .before .begins .ensures) ∙ c .before .before .before .before .before .before .before .before .before .before .before .before .if1 .left; no-save = sym (c .before .before .before .before .before .before .before .before .before .before .begins2 .ensures) ∙ c .before .before .before .before .before .before .before .before .before .if3 .left; no-loop = sym (c .before .before .before .before .before .before .before .begins3 .ensures) ∙ c .before .before .before .before .before .before .if5 .left; no-stop = sym (c .before .before .before .before .begins4 .ensures) ∙ c .before .before .before .if6 .left; no-global = sym (c .before .begins5 .ensures) ∙ c .if7 .left }) (c .before .before .before .before .before .before .before .before .before .before .before .before .before .before .before .before .pre .0) (c .before .before .before .before .before .before .before .before .before .before .before .before .before .before .before .before .pre .1)))
+returns-8 c =
+    let at-if5 = c .before .before .before .before .before .before in
+    let at-begins3 = at-if5 .before in
+    let at-if3 = at-begins3 .before .before in
+    let at-begins2 = at-if3 .before in
+    let at-if1 = at-begins2 .before .before in
+    let at-begins = at-if1 .before in
+    let start = at-begins .before .before .before in
+    λ more. sym (ap kindOf (word-ordinary more _ (record { no-data = sym (at-begins .begins .ensures) ∙ at-if1 .if1 .left; no-save = sym (at-begins2 .begins2 .ensures) ∙ at-if3 .if3 .left; no-loop = sym (at-begins3 .begins3 .ensures) ∙ at-if5 .if5 .left; no-stop = sym (c .before .before .before .before .begins4 .ensures) ∙ c .before .before .before .if6 .left; no-global = sym (c .before .begins5 .ensures) ∙ c .if7 .left }) (start .pre .0) (start .pre .1)))
 
 pub keyword-spec : {M : Type 1} → statement M
 keyword-spec =
