@@ -4,8 +4,9 @@ use mathlib.Core.List.{List, [], _∷_, _++_, flatMap, reverseAux, append-assoc}
 use Prim.Native.Nat.{ℕ, zero, suc, _+_, _-_, _≤_}
 use native.Mathlib.Omega.{arith}
 use lib.ListN.{length, replicate, length-replicate, length-reverseAux}
+use Rattle.star_lex.specs.Rules.{Rules}
 use Rattle.star_lex.specs.Tokens.{Token, Each}
-use Rattle.star_grammar.specs.Tree.{IsValue, IsName, innerYield, InnerWhole, File, fileYield, FileWhole, frameEnd, stop}
+use Rattle.star_grammar.specs.Tree.{IsValue, IsName, innerYield, InnerWhole, File, fileYield, FileBy, frameEnd, stop}
 use Rattle.star_grammar.specs.Tables.{Rows, noRows, rowsOf}
 use Rattle.star_grammar.specs.Machine.{sortOf, Where, inBlock, inFrame, Level, State, start, within, named, header, body, Step, go, refuse, step, run, walk}
 use Rattle.star_grammar.specs.Rest.{Fixed, InSet, Stopped, Filling, Levels, Heading, Blocks, Rest, SaneHeader, Sane, zeroWord, setEnding, packetEnding, onePacket, countsOf, ending, completion}
@@ -16,16 +17,16 @@ use Rattle.star_grammar.proofs.Sound.{no-packet, set-blocks, set-end, h
 use Rattle.star_grammar.proofs.Accepts.{Good, accepts}
 
 -- what a step leads to, in a walk
-abbrev pub walkOn : (limit : ℕ) → List Token → Step → Step
-walkOn limit ts (go s r) = walk limit s ts r
-walkOn limit ts (refuse n) = refuse n
+abbrev pub walkOn : (rules : Rules) → List Token → Step → Step
+walkOn rules ts (go s r) = walk rules s ts r
+walkOn rules ts (refuse n) = refuse n
 
-pub walk-on : (limit : ℕ) (st : State) (t : Token) (ts : List Token) (r : Rows)
-    → walk limit st (t ∷ ts) r ≡ walkOn limit ts (step limit st (sortOf (t .kind)) r)
+pub walk-on : (rules : Rules) (st : State) (t : Token) (ts : List Token) (r : Rows)
+    → walk rules st (t ∷ ts) r ≡ walkOn rules ts (step rules st (sortOf (t .kind)) r)
 unfolding walk
-walk-on limit st t ts r = at (step limit st (sortOf (t .kind)) r) refl
+walk-on rules st t ts r = at (step rules st (sortOf (t .kind)) r) refl
   where
-    at : (x : Step) → step limit st (sortOf (t .kind)) r ≡ x → walk limit st (t ∷ ts) r ≡ walkOn limit ts x
+    at : (x : Step) → step rules st (sortOf (t .kind)) r ≡ x → walk rules st (t ∷ ts) r ≡ walkOn rules ts x
     at (go s r′) e = rw (e, walk)
     at (refuse n) e = rw (e, walk)
 
@@ -33,48 +34,48 @@ pub refuse-go : (n : ℕ) (s : State) (r : Rows) → refuse n ≡ go s r → ⊥
 refuse-go n s r e = let z : _≡_ {A = ℕ} 0 1 = cc in omega arith
 
 -- a property of states that goes back over each step of a walk
-pub walk-induction : (limit : ℕ) (P : State → List Token → Rows → Type 0) (st′ : State) (r′ : Rows)
+pub walk-induction : (rules : Rules) (P : State → List Token → Rows → Type 0) (st′ : State) (r′ : Rows)
     → P st′ [] r′
-    → ((st s : State) (t : Token) (p : List Token) (r r″ : Rows) → step limit st (sortOf (t .kind)) r ≡ go s r″ → P s p r″ → P st (t ∷ p) r)
-    → (p : List Token) (st : State) (r : Rows) → walk limit st p r ≡ go st′ r′ → P st p r
+    → ((st s : State) (t : Token) (p : List Token) (r r″ : Rows) → step rules st (sortOf (t .kind)) r ≡ go s r″ → P s p r″ → P st (t ∷ p) r)
+    → (p : List Token) (st : State) (r : Rows) → walk rules st p r ≡ go st′ r′ → P st p r
 unfolding walk
-walk-induction limit P st′ r′ base back [] st r e =
+walk-induction rules P st′ r′ base back [] st r e =
     subst₂ (λ (s : State) (u : Rows). P s [] u) (let q : st′ ≡ st = cc in q) (let q : r′ ≡ r = cc in q) base
-walk-induction limit P st′ r′ base back (t ∷ p) st r e =
-    at (walk-induction limit P st′ r′ base back p) (step limit st (sortOf (t .kind)) r) refl
+walk-induction rules P st′ r′ base back (t ∷ p) st r e =
+    at (walk-induction rules P st′ r′ base back p) (step rules st (sortOf (t .kind)) r) refl
   where
-    at : ((s : State) (u : Rows) → walk limit s p u ≡ go st′ r′ → P s p u) → (x : Step) → step limit st (sortOf (t .kind)) r ≡ x → P st (t ∷ p) r
-    at later (go s u) q = back st s t p r u q (later s u (ap (walkOn limit p) (sym q) ∙ sym (walk-on limit st t p r) ∙ e))
-    at later (refuse n) q = absurd (refuse-go n st′ r′ (ap (walkOn limit p) (sym q) ∙ sym (walk-on limit st t p r) ∙ e))
+    at : ((s : State) (u : Rows) → walk rules s p u ≡ go st′ r′ → P s p u) → (x : Step) → step rules st (sortOf (t .kind)) r ≡ x → P st (t ∷ p) r
+    at later (go s u) q = back st s t p r u q (later s u (ap (walkOn rules p) (sym q) ∙ sym (walk-on rules st t p r) ∙ e))
+    at later (refuse n) q = absurd (refuse-go n st′ r′ (ap (walkOn rules p) (sym q) ∙ sym (walk-on rules st t p r) ∙ e))
 
 -- a run goes on from where a walk came to
-pub walk-run : (limit : ℕ) (st st′ : State) (p ts : List Token) (r r′ : Rows) → walk limit st p r ≡ go st′ r′
-    → run limit st (p ++ ts) r ≡ run limit st′ ts r′
-walk-run limit st st′ p ts r r′ e =
-    walk-induction limit (λ s q u. run limit s (q ++ ts) u ≡ run limit st′ ts r′) st′ r′ refl
-    (λ s s′ t q u u′ h later. run-onward limit s t (q ++ ts) u ∙ ap (onward limit (q ++ ts) u) h ∙ later) p st r e
+pub walk-run : (rules : Rules) (st st′ : State) (p ts : List Token) (r r′ : Rows) → walk rules st p r ≡ go st′ r′
+    → run rules st (p ++ ts) r ≡ run rules st′ ts r′
+walk-run rules st st′ p ts r r′ e =
+    walk-induction rules (λ s q u. run rules s (q ++ ts) u ≡ run rules st′ ts r′) st′ r′ refl
+    (λ s s′ t q u u′ h later. run-onward rules s t (q ++ ts) u ∙ ap (onward rules (q ++ ts) u) h ∙ later) p st r e
 
 -- so does a walk
-pub walk-append : (limit : ℕ) (st st′ : State) (p ts : List Token) (r r′ : Rows) → walk limit st p r ≡ go st′ r′
-    → walk limit st (p ++ ts) r ≡ walk limit st′ ts r′
-walk-append limit st st′ p ts r r′ e =
-    walk-induction limit (λ s q u. walk limit s (q ++ ts) u ≡ walk limit st′ ts r′) st′ r′ refl
-    (λ s s′ t q u u′ h later. walk-on limit s t (q ++ ts) u ∙ ap (walkOn limit (q ++ ts)) h ∙ later) p st r e
+pub walk-append : (rules : Rules) (st st′ : State) (p ts : List Token) (r r′ : Rows) → walk rules st p r ≡ go st′ r′
+    → walk rules st (p ++ ts) r ≡ walk rules st′ ts r′
+walk-append rules st st′ p ts r r′ e =
+    walk-induction rules (λ s q u. walk rules s (q ++ ts) u ≡ walk rules st′ ts r′) st′ r′ refl
+    (λ s s′ t q u u′ h later. walk-on rules s t (q ++ ts) u ∙ ap (walkOn rules (q ++ ts)) h ∙ later) p st r e
 
 -- a walk leads to sane states
-pub walk-sane : (limit : ℕ) → 1 ≤ limit → (st st′ : State) (p : List Token) (r r′ : Rows) → Sane limit st → walk limit st p r ≡ go st′ r′
-    → Sane limit st′
-walk-sane limit least st st′ p r r′ h e =
-    walk-induction limit (λ s q u. Sane limit s → Sane limit st′) st′ r′ (λ h′. h′)
-    (λ s s′ t q u u′ g later h′. later (sane-kept limit least s s′ (sortOf (t .kind)) u u′ h′ g)) p st r e h
+pub walk-sane : (rules : Rules) → 1 ≤ rules .levels → (st st′ : State) (p : List Token) (r r′ : Rows) → Sane rules st → walk rules st p r ≡ go st′ r′
+    → Sane rules st′
+walk-sane rules least st st′ p r r′ h e =
+    walk-induction rules (λ s q u. Sane rules s → Sane rules st′) st′ r′ (λ h′. h′)
+    (λ s s′ t q u u′ g later h′. later (sane-kept rules least s s′ (sortOf (t .kind)) u u′ h′ g)) p st r e h
 
 -- what may still come after a walk may come, with its tokens, before it
-pub walk-back : (limit : ℕ) → 1 ≤ limit → (st st′ : State) (p ts : List Token) (r r′ : Rows) → Each Fixed p → Sane limit st
-    → walk limit st p r ≡ go st′ r′ → Rest limit st′ ts → Rest limit st (p ++ ts)
-walk-back limit least st st′ p ts r r′ f h e c =
-    walk-induction limit (λ s q u. Each Fixed q → Sane limit s → Rest limit s (q ++ ts)) st′ r′ (λ f′ h′. c)
-    (λ s s′ t q u u′ g later f′ h′. step-back limit t (q ++ ts) (f′ .0) s s′ u u′ h′ g
-    (later (f′ .1) (sane-kept limit least s s′ (sortOf (t .kind)) u u′ h′ g))) p st r e f h
+pub walk-back : (rules : Rules) → 1 ≤ rules .levels → (st st′ : State) (p ts : List Token) (r r′ : Rows) → Each Fixed p → Sane rules st
+    → walk rules st p r ≡ go st′ r′ → Rest rules st′ ts → Rest rules st (p ++ ts)
+walk-back rules least st st′ p ts r r′ f h e c =
+    walk-induction rules (λ s q u. Each Fixed q → Sane rules s → Rest rules s (q ++ ts)) st′ r′ (λ f′ h′. c)
+    (λ s s′ t q u u′ g later f′ h′. step-back rules t (q ++ ts) (f′ .0) s s′ u u′ h′ g
+    (later (f′ .1) (sane-kept rules least s s′ (sortOf (t .kind)) u u′ h′ g))) p st r e f h
 
 -- the tokens that end a file are the word 0, `stop_` and `save_`
 module _ (P : Token → Type 0) (pz : P zeroWord) (ps : P stop) (pe : P frameEnd) where
@@ -119,17 +120,17 @@ zero-values : (n : ℕ) → Each IsValue (replicate n zeroWord)
 zero-values zero = tt
 zero-values (suc n) = (zero-is-value, zero-values n)
 
-module _ (limit : ℕ) where
-  set-rest : (w : Where) → InSet limit w (setEnding w)
+module _ (rules : Rules) where
+  set-rest : (w : Where) → InSet rules w (setEnding w)
   unfolding flatMap
-  set-rest (inBlock s) = set-blocks limit [] (record { blocks = []; yield = refl; whole = tt })
-  set-rest (inFrame b s) = set-end limit [] (set-blocks limit [] (record { blocks = []; yield = refl; whole = tt }))
+  set-rest (inBlock s) = set-blocks rules [] (record { blocks = []; yield = refl; whole = tt })
+  set-rest (inFrame b s) = set-end rules [] (set-blocks rules [] (record { blocks = []; yield = refl; whole = tt }))
 
   levels-rest : (w : Where) (outer : List Level) (n : ℕ) (inner : List ℕ)
-      → Levels limit w outer n inner (replicate (length outer) stop ++ setEnding w)
-  levels-rest w [] n inner = no-packet n inner (InSet limit w) (setEnding w) (set-rest w)
+      → Levels rules w outer n inner (replicate (length outer) stop ++ setEnding w)
+  levels-rest w [] n inner = no-packet n inner (InSet rules w) (setEnding w) (set-rest w)
   levels-rest w (o ∷ outer) n inner =
-      no-packet n inner (Stopped (Levels limit w outer (o .names) (n ∷ inner))) (stop ∷ (replicate (length outer) stop ++ setEnding w))
+      no-packet n inner (Stopped (Levels rules w outer (o .names) (n ∷ inner))) (stop ∷ (replicate (length outer) stop ++ setEnding w))
       (record { after = replicate (length outer) stop ++ setEnding w; yield = refl; rest = levels-rest w outer (o .names) (n ∷ inner) })
 
   -- the values that a packet lacks, and nothing below it
@@ -157,52 +158,52 @@ module _ (limit : ℕ) where
     rest = a;
   }
 
-  heading-rest : (w : Where) (before : List ℕ) (n s : ℕ) → 1 ≤ n → SaneHeader limit before n s
-      → Heading limit w before n s (onePacket (reverseAux before (n ∷ [])) ++ setEnding w)
+  heading-rest : (w : Where) (before : List ℕ) (n s : ℕ) → 1 ≤ n → SaneHeader rules before n s
+      → Heading rules w before n s (onePacket (reverseAux before (n ∷ [])) ++ setEnding w)
   heading-rest w before n s some h = at (reverseAux before (n ∷ [])) refl
     where
-      at : (ls : List ℕ) → reverseAux before (n ∷ []) ≡ ls → Heading limit w before n s (onePacket ls ++ setEnding w)
+      at : (ls : List ℕ) → reverseAux before (n ∷ []) ≡ ls → Heading rules w before n s (onePacket ls ++ setEnding w)
       at [] e = absurd (omega (arith, rw length-reverseAux at (ap length e)))
       at (m ∷ ls) e =
           rw (append-assoc (replicate m zeroWord) (packetEnding ls) (setEnding w))
-          (heading-value limit w before n s m ls (replicate m zeroWord ++ (packetEnding ls ++ setEnding w)) some h e
-          (filling-rest m 0 m ls (Levels limit w [] m ls) (setEnding w) (omega arith) (levels-rest w [] m ls)))
+          (heading-value rules w before n s m ls (replicate m zeroWord ++ (packetEnding ls ++ setEnding w)) some h e
+          (filling-rest m 0 m ls (Levels rules w [] m ls) (setEnding w) (omega arith) (levels-rest w [] m ls)))
 
   -- the completion of a sane state may come there
-  pub completion-rest : (st : State) (x : Token) → Sane limit st → IsName x → Rest limit st (completion st x)
+  pub completion-rest : (st : State) (x : Token) → Sane rules st → IsName x → Rest rules st (completion st x)
   unfolding flatMap
   completion-rest start x h n = record { blocks = []; yield = refl; whole = tt }
   completion-rest (within w) x h n = set-rest w
   completion-rest (named w) x h n =
       record { value = zeroWord; after = setEnding w; yield = refl; is-value = zero-is-value; rest = set-rest w }
   completion-rest (header w first before zero zero) x h n =
-      heading-name limit w before 0 x (onePacket (reverseAux before (1 ∷ [])) ++ setEnding w) (n .kind6)
+      heading-name rules w before 0 x (onePacket (reverseAux before (1 ∷ [])) ++ setEnding w) (n .kind6)
       (heading-rest w before 1 0 (omega arith)
-      (record { some-names = h .some-names; levels = h .levels; stops-fit = h .stops-fit; stopped = omega arith }))
+      (record { some-names = h .some-names; levels = h .levels; stops-fit = h .stops-fit; stops-allowed = h .stops-allowed; stopped = omega arith }))
   completion-rest (header w first before zero (suc s)) x h n = absurd (omega (arith, h .stopped (omega arith)))
   completion-rest (header w first before (suc m) s) x h n = heading-rest w before (suc m) s (omega arith) h
   completion-rest (body w outer l inner zero) x h n = levels-rest w outer (l .names) inner
   completion-rest (body w outer l inner (suc f)) x h n =
-      filling-rest (l .names) (suc f) (l .names - suc f) inner (Levels limit w outer (l .names) inner) (replicate (length outer) stop ++ setEnding w)
+      filling-rest (l .names) (suc f) (l .names - suc f) inner (Levels rules w outer (l .names) inner) (replicate (length outer) stop ++ setEnding w)
       (omega (arith, h .room)) (levels-rest w outer (l .names) inner)
 
   -- and a run accepts it
-  pub completion-good : (st : State) (x : Token) (r : Rows) → Sane limit st → IsName x → Good (run limit st (completion st x) r)
-  completion-good st x r h n = accepts limit st (completion st x) r h (completion-rest st x h n)
+  pub completion-good : (st : State) (x : Token) (r : Rows) → Sane rules st → IsName x → Good (run rules st (completion st x) r)
+  completion-good st x r h n = accepts rules st (completion st x) r h (completion-rest st x h n)
 
 -- what a walk from the start has read begins a whole file
-pub rest-alive : (limit : ℕ) → 1 ≤ limit → (p : List Token) → Each Fixed p → (st : State) (r : Rows) → walk limit start p noRows ≡ go st r
-    → (x : Token) → IsName x → (f : File) × (fileYield f ≡ p ++ completion st x) × FileWhole limit f
-rest-alive limit least p f st r e x n =
-    let b : Blocks limit (p ++ completion st x) =
-    walk-back limit least start st p (completion st x) noRows r f tt e
-    (completion-rest limit st x (walk-sane limit least start st p noRows r tt e) n) in
+pub rest-alive : (rules : Rules) → 1 ≤ rules .levels → (p : List Token) → Each Fixed p → (st : State) (r : Rows) → walk rules start p noRows ≡ go st r
+    → (x : Token) → IsName x → (f : File) × (fileYield f ≡ p ++ completion st x) × FileBy rules f
+rest-alive rules least p f st r e x n =
+    let b : Blocks rules (p ++ completion st x) =
+    walk-back rules least start st p (completion st x) noRows r f tt e
+    (completion-rest rules st x (walk-sane rules least start st p noRows r tt e) n) in
     (b .blocks, sym (b .yield), b .whole)
 
 -- a token that a step refuses after a walk from the start continues no whole file
-pub dead : (limit : ℕ) (p : List Token) (st : State) (r : Rows) → walk limit start p noRows ≡ go st r → (t : Token) (n : ℕ)
-    → step limit st (sortOf (t .kind)) r ≡ refuse n → (f : File) → FileWhole limit f → (ts : List Token) → fileYield f ≡ p ++ (t ∷ ts) → ⊥
-dead limit p st r e t n q f w ts y =
+pub dead : (rules : Rules) (p : List Token) (st : State) (r : Rows) → walk rules start p noRows ≡ go st r → (t : Token) (n : ℕ)
+    → step rules st (sortOf (t .kind)) r ≡ refuse n → (f : File) → FileBy rules f → (ts : List Token) → fileYield f ≡ p ++ (t ∷ ts) → ⊥
+dead rules p st r e t n q f w ts y =
     bad-good n (r .tokens) (rowsOf f)
-    (ap (onward limit ts r) (sym q) ∙ sym (run-onward limit st t ts r) ∙ sym (walk-run limit start st p (t ∷ ts) noRows r e)
-    ∙ ap (λ (u : List Token). run limit start u noRows) (sym y) ∙ complete limit f w)
+    (ap (onward rules ts r) (sym q) ∙ sym (run-onward rules st t ts r) ∙ sym (walk-run rules start st p (t ∷ ts) noRows r e)
+    ∙ ap (λ (u : List Token). run rules start u noRows) (sym y) ∙ complete rules f w)

@@ -1,6 +1,6 @@
 -- A run over a tree's yield makes the tree's rows: each piece takes its state to the state after it and puts the piece's rows, whatever follows.
 use mathlib.Core.Path.{_≡_, refl, sym, _∙_}
-use mathlib.Core.Bool.{cond}
+use mathlib.Core.Bool.{true, cond}
 use mathlib.Core.List.{List, [], _∷_, _++_, map, flatMap, reverseAux, append-assoc}
 use Prim.Native.Nat.{ℕ, zero, suc, _+_, _≤_, _<_}
 use native.Mathlib.Nat.{add-suc, suc-add, add-zero, zero-add}
@@ -9,8 +9,9 @@ use native.Mathlib.Omega.{arith}
 use lib.Dec.{ltb}
 use lib.ListN.{length, replicate, length-map, length-append}
 use borrow.Author.Tests.{lt-ltb, le-ltb}
+use Rattle.star_lex.specs.Rules.{Rules}
 use Rattle.star_lex.specs.Tokens.{Token, Each}
-use Rattle.star_grammar.specs.Tree.{IsValue, IsName, Inner, Packet, innerYield, packetYield, InnerWhole, PacketWhole, Loop, loopYield, LoopWhole, Entry, item, looped, entryYield, EntryWhole, Frame, frameYield, FrameWhole, Member, own, framed, memberYield, MemberWhole, blockYield, File, fileYield, FileWhole, frameEnd, loopStart, stop}
+use Rattle.star_grammar.specs.Tree.{IsValue, IsName, Inner, Packet, innerYield, packetYield, InnerWhole, PacketWhole, Loop, loopYield, LoopBy, Entry, item, looped, entryYield, EntryBy, Frame, frameYield, FrameBy, Member, own, framed, memberYield, MemberBy, blockYield, File, fileYield, FileBy, frameEnd, loopStart, stop}
 use Rattle.star_grammar.specs.Tables.{Rows, noRows, pass, openLoop, putSet, putName, putPacket, putValue, fold, next, putValues, putInner, putPacketTree, putNames, putDeeper, putStops, putLoop, putEntry, putFrame, putMember, putBlock, rowsOf}
 use Rattle.star_grammar.specs.Machine.{Sort, sortOf, Where, inBlock, inFrame, setOf, Level, parentOf, start, within, named, header, body, go, between, filled, fill, valueAt, begin, headerStep, noValue, noValueAt, bodyStep, startStep, namedStep, step, good, endBetween, endBody, endRun, run}
 use Rattle.star_grammar.proofs.Counts.{Counts, map-counts}
@@ -21,43 +22,43 @@ abbrev pub level : (names first packet : ℕ) → Level
 level names first packet = record { names = names; first = first; packet = packet }
 
 -- before a packet begins, the number of the one before is not read
-any-packet-step : (limit : ℕ) (w : Where) (outer : List Level) (n first k k′ : ℕ) (ls : List ℕ) (s : Sort) (r : Rows)
-    → step limit (body w outer (level n first k) ls 0) s r ≡ step limit (body w outer (level n first k′) ls 0) s r
+any-packet-step : (rules : Rules) (w : Where) (outer : List Level) (n first k k′ : ℕ) (ls : List ℕ) (s : Sort) (r : Rows)
+    → step rules (body w outer (level n first k) ls 0) s r ≡ step rules (body w outer (level n first k′) ls 0) s r
 unfolding step bodyStep noValueAt noValue valueAt
-any-packet-step limit w outer n first k k′ ls Sort.value r = refl
-any-packet-step limit w outer n first k k′ ls Sort.global r = refl
-any-packet-step limit w [] n first k k′ ls Sort.block r = refl
-any-packet-step limit w [] n first k k′ ls Sort.frame r = refl
-any-packet-step limit w [] n first k k′ ls Sort.frameEnd r = refl
-any-packet-step limit w [] n first k k′ ls Sort.loop r = refl
-any-packet-step limit w [] n first k k′ ls Sort.stop r = refl
-any-packet-step limit w [] n first k k′ ls Sort.name r = refl
-any-packet-step limit w (o ∷ outer) n first k k′ ls Sort.block r = refl
-any-packet-step limit w (o ∷ outer) n first k k′ ls Sort.frame r = refl
-any-packet-step limit w (o ∷ outer) n first k k′ ls Sort.frameEnd r = refl
-any-packet-step limit w (o ∷ outer) n first k k′ ls Sort.loop r = refl
-any-packet-step limit w (o ∷ outer) n first k k′ ls Sort.stop r = refl
-any-packet-step limit w (o ∷ outer) n first k k′ ls Sort.name r = refl
+any-packet-step rules w outer n first k k′ ls Sort.value r = refl
+any-packet-step rules w outer n first k k′ ls Sort.global r = refl
+any-packet-step rules w [] n first k k′ ls Sort.block r = refl
+any-packet-step rules w [] n first k k′ ls Sort.frame r = refl
+any-packet-step rules w [] n first k k′ ls Sort.frameEnd r = refl
+any-packet-step rules w [] n first k k′ ls Sort.loop r = refl
+any-packet-step rules w [] n first k k′ ls Sort.stop r = refl
+any-packet-step rules w [] n first k k′ ls Sort.name r = refl
+any-packet-step rules w (o ∷ outer) n first k k′ ls Sort.block r = refl
+any-packet-step rules w (o ∷ outer) n first k k′ ls Sort.frame r = refl
+any-packet-step rules w (o ∷ outer) n first k k′ ls Sort.frameEnd r = refl
+any-packet-step rules w (o ∷ outer) n first k k′ ls Sort.loop r = refl
+any-packet-step rules w (o ∷ outer) n first k k′ ls Sort.stop r = refl
+any-packet-step rules w (o ∷ outer) n first k k′ ls Sort.name r = refl
 
-pub any-packet : (limit : ℕ) (w : Where) (outer : List Level) (n first k k′ : ℕ) (ls : List ℕ) (ts : List Token) (r : Rows)
-    → run limit (body w outer (level n first k) ls 0) ts r ≡ run limit (body w outer (level n first k′) ls 0) ts r
+pub any-packet : (rules : Rules) (w : Where) (outer : List Level) (n first k k′ : ℕ) (ls : List ℕ) (ts : List Token) (r : Rows)
+    → run rules (body w outer (level n first k) ls 0) ts r ≡ run rules (body w outer (level n first k′) ls 0) ts r
 unfolding run endRun endBody
-any-packet limit w outer n first k k′ ls [] r = refl
-any-packet limit w outer n first k k′ ls (t ∷ ts) r =
-    run-alike limit (body w outer (level n first k) ls 0) (body w outer (level n first k′) ls 0) t ts r
-    (any-packet-step limit w outer n first k k′ ls (sortOf (t .kind)) r)
+any-packet rules w outer n first k k′ ls [] r = refl
+any-packet rules w outer n first k k′ ls (t ∷ ts) r =
+    run-alike rules (body w outer (level n first k) ls 0) (body w outer (level n first k′) ls 0) t ts r
+    (any-packet-step rules w outer n first k k′ ls (sortOf (t .kind)) r)
 
 -- the rest of a packet's values
-pub fill-values : (limit : ℕ) (w : Where) (outer : List Level) (n first k : ℕ) (ls : List ℕ) (f : ℕ) (vs rest : List Token) (r : Rows)
+pub fill-values : (rules : Rules) (w : Where) (outer : List Level) (n first k : ℕ) (ls : List ℕ) (f : ℕ) (vs rest : List Token) (r : Rows)
     → suc f + length vs ≡ n → Each IsValue vs
-    → run limit (cond (ltb (suc f) n) (body w outer (level n first k) ls (suc f)) (filled w outer (level n first k) ls)) (vs ++ rest) r
-    ≡ run limit (filled w outer (level n first k) ls) rest (putValues (suc (first + f)) k vs r)
+    → run rules (cond (ltb (suc f) n) (body w outer (level n first k) ls (suc f)) (filled w outer (level n first k) ls)) (vs ++ rest) r
+    ≡ run rules (filled w outer (level n first k) ls) rest (putValues (suc (first + f)) k vs r)
 unfolding putValues step bodyStep valueAt fill
-fill-values limit w outer n first k ls f [] rest r e h = rw (le-ltb (suc f) n (omega arith))
-fill-values limit w outer n first k ls f (v ∷ vs) rest r e h =
+fill-values rules w outer n first k ls f [] rest r e h = rw (le-ltb (suc f) n (omega arith))
+fill-values rules w outer n first k ls f (v ∷ vs) rest r e h =
     rw (lt-ltb (suc f) n (omega (arith, e)), ← add-suc first f)
-    (run-sort limit (body w outer (level n first k) ls (suc f)) v (vs ++ rest) r Sort.value (sort-value v (h .0))
-    ∙ fill-values limit w outer n first k ls (suc f) vs rest (putValue (first + suc f) k r) (omega (arith, e)) (h .1))
+    (run-sort rules (body w outer (level n first k) ls (suc f)) v (vs ++ rest) r Sort.value (sort-value v (h .0))
+    ∙ fill-values rules w outer n first k ls (suc f) vs rest (putValue (first + suc f) k r) (omega (arith, e)) (h .1))
 
 -- loops are not counted by what stands inside one
 values-loops : (name packet : ℕ) (vs : List Token) (r : Rows) → putValues name packet vs r .loops ≡ r .loops
@@ -86,17 +87,17 @@ packet-loops m ls loop level first parent p r =
     ∙ values-loops first (next (r .packets)) (p .0) (putPacket loop level parent r)
 
 -- what stands below a packet, after its values
-abbrev pub InnerRuns : (limit : ℕ) → List ℕ → Type 0
-InnerRuns limit ls =
+abbrev pub InnerRuns : (rules : Rules) → List ℕ → Type 0
+InnerRuns rules ls =
     (w : Where) (outer : List Level) (n first k : ℕ) (i : Inner ls) (rest : List Token) (r : Rows) (loop : ℕ) → Counts ls → InnerWhole ls i
     → r .loops ≡ loop
-    → run limit (filled w outer (level n first k) ls) (innerYield ls i ++ rest) r
-    ≡ run limit (body w outer (level n first k) ls 0) rest (putInner ls loop (suc (suc (length outer))) (first + n) k i r)
+    → run rules (filled w outer (level n first k) ls) (innerYield ls i ++ rest) r
+    ≡ run rules (body w outer (level n first k) ls 0) rest (putInner ls loop (suc (suc (length outer))) (first + n) k i r)
 
-module _ (limit : ℕ) (w : Where) (ls : List ℕ) (below : InnerRuns limit ls) (counts : Counts ls) (outer : List Level) (n first k loop : ℕ) (some : 1 ≤ n) where
+module _ (rules : Rules) (w : Where) (ls : List ℕ) (below : InnerRuns rules ls) (counts : Counts ls) (outer : List Level) (n first k loop : ℕ) (some : 1 ≤ n) where
   packet-run : (vs : List Token) (i : Inner ls) (rest : List Token) (r : Rows) → r .loops ≡ loop → PacketWhole n ls (vs, i)
-      → run limit (body w outer (level n first k) ls 0) (vs ++ innerYield ls i ++ rest) r
-      ≡ run limit (body w outer (level n first k) ls 0) rest (putPacketTree n ls loop (suc (length outer)) first (parentOf outer) (vs, i) r)
+      → run rules (body w outer (level n first k) ls 0) (vs ++ innerYield ls i ++ rest) r
+      ≡ run rules (body w outer (level n first k) ls 0) rest (putPacketTree n ls loop (suc (length outer)) first (parentOf outer) (vs, i) r)
   unfolding step bodyStep valueAt fill putPacketTree putPacket putValues putValue
   packet-run [] i rest r e h = absurd (omega (arith, h .0))
   packet-run (v ∷ vs) i rest r e h =
@@ -106,14 +107,14 @@ module _ (limit : ℕ) (w : Where) (ls : List ℕ) (below : InnerRuns limit ls) 
       let vals : Rows = putValues (suc (first + 0)) q vs r₂ in
       rw (append-assoc vs (innerYield ls i) rest, ← e)
       (rw (add-zero first) at
-      (run-sort limit (body w outer (level n first k) ls 0) v (vs ++ (innerYield ls i ++ rest)) r Sort.value (sort-value v (h .1 .0))
-      ∙ fill-values limit w outer n first q ls 0 vs (innerYield ls i ++ rest) r₂ (omega (arith, h .0)) (h .1 .1)
+      (run-sort rules (body w outer (level n first k) ls 0) v (vs ++ (innerYield ls i ++ rest)) r Sort.value (sort-value v (h .1 .0))
+      ∙ fill-values rules w outer n first q ls 0 vs (innerYield ls i ++ rest) r₂ (omega (arith, h .0)) (h .1 .1)
       ∙ below w outer n first q i rest vals (r .loops) counts (h .2) (values-loops (suc (first + 0)) q vs r₂)
-      ∙ any-packet limit w outer n first q k ls rest (putInner ls (r .loops) (suc (suc (length outer))) (first + n) q i vals)))
+      ∙ any-packet rules w outer n first q k ls rest (putInner ls (r .loops) (suc (suc (length outer))) (first + n) q i vals)))
 
   pub packets-run : (ps : List (Packet ls)) (rest : List Token) (r : Rows) → r .loops ≡ loop → Each (PacketWhole n ls) ps
-      → run limit (body w outer (level n first k) ls 0) (flatMap (packetYield ls) ps ++ rest) r
-      ≡ run limit (body w outer (level n first k) ls 0) rest (fold (putPacketTree n ls loop (suc (length outer)) first (parentOf outer)) ps r)
+      → run rules (body w outer (level n first k) ls 0) (flatMap (packetYield ls) ps ++ rest) r
+      ≡ run rules (body w outer (level n first k) ls 0) rest (fold (putPacketTree n ls loop (suc (length outer)) first (parentOf outer)) ps r)
   unfolding flatMap
   packets-run [] rest r e h = refl
   packets-run (p ∷ ps) rest r e h =
@@ -122,13 +123,13 @@ module _ (limit : ℕ) (w : Where) (ls : List ℕ) (below : InnerRuns limit ls) 
       ∙ packets-run ps rest (putPacketTree n ls loop (suc (length outer)) first (parentOf outer) p r)
       (packet-loops n ls loop (suc (length outer)) first (parentOf outer) p r ∙ e) (h .1))
 
-pub inner-run : (limit : ℕ) (ls : List ℕ) → InnerRuns limit ls
+pub inner-run : (rules : Rules) (ls : List ℕ) → InnerRuns rules ls
 unfolding filled innerYield InnerWhole putInner putPacketTree parentOf step bodyStep noValueAt noValue
-inner-run limit [] w outer n first k i rest r loop c h e = refl
-inner-run limit (m ∷ ls) w outer n first k ps rest r loop c h e =
+inner-run rules [] w outer n first k i rest r loop c h e = refl
+inner-run rules (m ∷ ls) w outer n first k ps rest r loop c h e =
     rw (append-assoc (flatMap (packetYield ls) ps) (stop ∷ []) rest)
-    (packets-run limit w ls (inner-run limit ls) (c .1) (level n first k ∷ outer) m (first + n) 0 loop (c .0) ps (stop ∷ rest) r e h
-    ∙ run-sort limit (body w (level n first k ∷ outer) (level m (first + n) 0) ls 0) stop rest
+    (packets-run rules w ls (inner-run rules ls) (c .1) (level n first k ∷ outer) m (first + n) 0 loop (c .0) ps (stop ∷ rest) r e h
+    ∙ run-sort rules (body w (level n first k ∷ outer) (level m (first + n) 0) ls 0) stop rest
     (fold (putPacketTree m ls loop (suc (suc (length outer))) (first + n) k) ps r) Sort.stop sort-stop)
 
 -- the names of a level
@@ -137,14 +138,14 @@ unfolding putNames putName
 names-loops set loop level [] r = refl
 names-loops set loop level (x ∷ ns) r = names-loops set loop level ns (putName set loop level r)
 
-pub names-run : (limit : ℕ) (w : Where) (first : ℕ) (before : List ℕ) (n : ℕ) (ns rest : List Token) (r : Rows) → Each IsName ns
-    → run limit (header w first before n 0) (ns ++ rest) r
-    ≡ run limit (header w first before (n + length ns) 0) rest (putNames (setOf w) (r .loops) (suc (length before)) ns r)
+pub names-run : (rules : Rules) (w : Where) (first : ℕ) (before : List ℕ) (n : ℕ) (ns rest : List Token) (r : Rows) → Each IsName ns
+    → run rules (header w first before n 0) (ns ++ rest) r
+    ≡ run rules (header w first before (n + length ns) 0) rest (putNames (setOf w) (r .loops) (suc (length before)) ns r)
 unfolding step headerStep putNames putName
-names-run limit w first before n [] rest r h = rw (add-zero n)
-names-run limit w first before n (x ∷ ns) rest r h =
-    run-sort limit (header w first before n 0) x (ns ++ rest) r Sort.name (sort-name x (h .0))
-    ∙ names-run limit w first before (suc n) ns rest (putName (setOf w) (r .loops) (suc (length before)) r) (h .1)
+names-run rules w first before n [] rest r h = rw (add-zero n)
+names-run rules w first before n (x ∷ ns) rest r h =
+    run-sort rules (header w first before n 0) x (ns ++ rest) r Sort.name (sort-name x (h .0))
+    ∙ names-run rules w first before (suc n) ns rest (putName (setOf w) (r .loops) (suc (length before)) r) (h .1)
     ∙ rw (suc-add n (length ns), add-suc n (length ns))
 
 -- the counts of a header's levels: the current one after deeper ones, and those before it
@@ -172,67 +173,68 @@ pub before-reverse : (before : List ℕ) (n : ℕ) (ms : List ℕ) → reverseAu
 before-reverse before n [] = refl
 before-reverse before n (m ∷ ms) = before-reverse (n ∷ before) m ms
 
-pub step-deeper : (limit : ℕ) (w : Where) (first : ℕ) (before : List ℕ) (n : ℕ) (r : Rows) → 1 ≤ n → suc (length before) < limit
-    → step limit (header w first before n 0) Sort.loop r ≡ go (header w first (n ∷ before) 0 0) (pass r)
+pub step-deeper : (rules : Rules) (w : Where) (first : ℕ) (before : List ℕ) (n : ℕ) (r : Rows) → 1 ≤ n → suc (length before) < rules .levels
+    → step rules (header w first before n 0) Sort.loop r ≡ go (header w first (n ∷ before) 0 0) (pass r)
 unfolding step headerStep
-step-deeper limit w first before n r h l = rw (lt-ltb 0 n h, lt-ltb (suc (length before)) limit l)
+step-deeper rules w first before n r h l = rw (lt-ltb 0 n h, lt-ltb (suc (length before)) (rules .levels) l)
 
 -- the deeper levels of a header
-pub deeper-run : (limit : ℕ) (w : Where) (first : ℕ) (before : List ℕ) (n loop : ℕ) (nss : List (List Token)) (rest : List Token) (r : Rows)
-    → 1 ≤ n → suc (length before) + length nss ≤ limit → Each (λ ns. 1 ≤ length ns) nss → Each (Each IsName) nss → r .loops ≡ loop
-    → run limit (header w first before n 0) (flatMap (λ ns. loopStart ∷ ns) nss ++ rest) r
-    ≡ run limit (header w first (beforeOf before n (map length nss)) (lastOf n (map length nss)) 0) rest
+pub deeper-run : (rules : Rules) (w : Where) (first : ℕ) (before : List ℕ) (n loop : ℕ) (nss : List (List Token)) (rest : List Token) (r : Rows)
+    → 1 ≤ n → suc (length before) + length nss ≤ rules .levels → Each (λ ns. 1 ≤ length ns) nss → Each (Each IsName) nss → r .loops ≡ loop
+    → run rules (header w first before n 0) (flatMap (λ ns. loopStart ∷ ns) nss ++ rest) r
+    ≡ run rules (header w first (beforeOf before n (map length nss)) (lastOf n (map length nss)) 0) rest
     (putDeeper (setOf w) loop (suc (suc (length before))) nss r)
 unfolding flatMap putDeeper pass
-deeper-run limit w first before n loop [] rest r h l s a e = refl
-deeper-run limit w first before n loop (ns ∷ nss) rest r h l s a e =
+deeper-run rules w first before n loop [] rest r h l s a e = refl
+deeper-run rules w first before n loop (ns ∷ nss) rest r h l s a e =
     rw (append-assoc ns (flatMap (λ ns. loopStart ∷ ns) nss) rest, ← e)
-    (run-go limit (header w first before n 0) loopStart (ns ++ (flatMap (λ ns. loopStart ∷ ns) nss ++ rest)) r Sort.loop
-    (header w first (n ∷ before) 0 0) (pass r) sort-loop (step-deeper limit w first before n r h (omega (arith, l)))
+    (run-go rules (header w first before n 0) loopStart (ns ++ (flatMap (λ ns. loopStart ∷ ns) nss ++ rest)) r Sort.loop
+    (header w first (n ∷ before) 0 0) (pass r) sort-loop (step-deeper rules w first before n r h (omega (arith, l)))
     ∙ (rw (zero-add (length ns)) at
-    (names-run limit w first (n ∷ before) 0 ns (flatMap (λ ns. loopStart ∷ ns) nss ++ rest) (pass r) (a .0)))
-    ∙ deeper-run limit w first (n ∷ before) (length ns) (r .loops) nss rest
+    (names-run rules w first (n ∷ before) 0 ns (flatMap (λ ns. loopStart ∷ ns) nss ++ rest) (pass r) (a .0)))
+    ∙ deeper-run rules w first (n ∷ before) (length ns) (r .loops) nss rest
     (putNames (setOf w) (r .loops) (suc (suc (length before))) ns (pass r)) (s .0) (omega (arith, l)) (s .1) (a .1)
     (names-loops (setOf w) (r .loops) (suc (suc (length before))) ns (pass r)))
 
 -- header stops
-pub stops-run : (limit : ℕ) (w : Where) (first : ℕ) (before : List ℕ) (n s k : ℕ) (rest : List Token) (r : Rows) → 1 ≤ n → s + k ≤ length before
-    → run limit (header w first before n s) (replicate k stop ++ rest) r ≡ run limit (header w first before n (s + k)) rest (putStops k r)
+pub stops-run : (rules : Rules) (w : Where) (first : ℕ) (before : List ℕ) (n s k : ℕ) (rest : List Token) (r : Rows) → 1 ≤ n → s + k ≤ length before
+    → (1 ≤ k → rules .headerStops ≡ true)
+    → run rules (header w first before n s) (replicate k stop ++ rest) r ≡ run rules (header w first before n (s + k)) rest (putStops k r)
 unfolding putStops step headerStep
-stops-run limit w first before n s zero rest r h l = rw (add-zero s)
-stops-run limit w first before n s (suc k) rest r h l =
-    run-go limit (header w first before n s) stop (replicate k stop ++ rest) r Sort.stop (header w first before n (suc s)) (pass r) sort-stop
-    (rw (lt-ltb 0 n h, lt-ltb s (length before) (omega arith)))
-    ∙ stops-run limit w first before n (suc s) k rest (pass r) h (omega arith)
+stops-run rules w first before n s zero rest r h l a = rw (add-zero s)
+stops-run rules w first before n s (suc k) rest r h l a =
+    run-go rules (header w first before n s) stop (replicate k stop ++ rest) r Sort.stop (header w first before n (suc s)) (pass r) sort-stop
+    (rw (a (omega arith), lt-ltb 0 n h, lt-ltb s (length before) (omega arith)))
+    ∙ stops-run rules w first before n (suc s) k rest (pass r) h (omega arith) (λ x. a (omega arith))
     ∙ rw (suc-add s k, add-suc s k)
 
 -- the first value of a loop begins level 1
-pub step-begin : (limit : ℕ) (w : Where) (first : ℕ) (before : List ℕ) (n s m : ℕ) (ls : List ℕ) (r : Rows) → 1 ≤ n
+pub step-begin : (rules : Rules) (w : Where) (first : ℕ) (before : List ℕ) (n s m : ℕ) (ls : List ℕ) (r : Rows) → 1 ≤ n
     → reverseAux before (n ∷ []) ≡ m ∷ ls
-    → step limit (header w first before n s) Sort.value r ≡ step limit (body w [] (level m first 0) ls 0) Sort.value r
+    → step rules (header w first before n s) Sort.value r ≡ step rules (body w [] (level m first 0) ls 0) Sort.value r
 unfolding step headerStep begin bodyStep
-step-begin limit w first before n s m ls r h e = rw (lt-ltb 0 n h, e)
+step-begin rules w first before n s m ls r h e = rw (lt-ltb 0 n h, e)
 
-pub begin-values : (limit : ℕ) (w : Where) (first : ℕ) (before : List ℕ) (n s m : ℕ) (ls : List ℕ) (vs rest : List Token) (r : Rows) → 1 ≤ n
+pub begin-values : (rules : Rules) (w : Where) (first : ℕ) (before : List ℕ) (n s m : ℕ) (ls : List ℕ) (vs rest : List Token) (r : Rows) → 1 ≤ n
     → reverseAux before (n ∷ []) ≡ m ∷ ls → 1 ≤ length vs → Each IsValue vs
-    → run limit (header w first before n s) (vs ++ rest) r ≡ run limit (body w [] (level m first 0) ls 0) (vs ++ rest) r
-begin-values limit w first before n s m ls [] rest r h e l a = absurd (omega (arith, l))
-begin-values limit w first before n s m ls (v ∷ vs) rest r h e l a =
-    run-alike limit (header w first before n s) (body w [] (level m first 0) ls 0) v (vs ++ rest) r
-    (rw (sort-value v (a .0)) (step-begin limit w first before n s m ls r h e))
+    → run rules (header w first before n s) (vs ++ rest) r ≡ run rules (body w [] (level m first 0) ls 0) (vs ++ rest) r
+begin-values rules w first before n s m ls [] rest r h e l a = absurd (omega (arith, l))
+begin-values rules w first before n s m ls (v ∷ vs) rest r h e l a =
+    run-alike rules (header w first before n s) (body w [] (level m first 0) ls 0) v (vs ++ rest) r
+    (rw (sort-value v (a .0)) (step-begin rules w first before n s m ls r h e))
 
-begin-packets : (limit : ℕ) (w : Where) (first : ℕ) (before : List ℕ) (n s m : ℕ) (ls : List ℕ) (ps : List (Packet ls)) (rest : List Token) (r : Rows)
+begin-packets : (rules : Rules) (w : Where) (first : ℕ) (before : List ℕ) (n s m : ℕ) (ls : List ℕ) (ps : List (Packet ls)) (rest : List Token) (r : Rows)
     → 1 ≤ n → reverseAux before (n ∷ []) ≡ m ∷ ls → 1 ≤ m → 1 ≤ length ps → Each (PacketWhole m ls) ps
-    → run limit (header w first before n s) (flatMap (packetYield ls) ps ++ rest) r
-    ≡ run limit (body w [] (level m first 0) ls 0) (flatMap (packetYield ls) ps ++ rest) r
+    → run rules (header w first before n s) (flatMap (packetYield ls) ps ++ rest) r
+    ≡ run rules (body w [] (level m first 0) ls 0) (flatMap (packetYield ls) ps ++ rest) r
 unfolding flatMap
-begin-packets limit w first before n s m ls [] rest r h e hm l a = absurd (omega (arith, l))
-begin-packets limit w first before n s m ls (p ∷ ps) rest r h e hm l a =
+begin-packets rules w first before n s m ls [] rest r h e hm l a = absurd (omega (arith, l))
+begin-packets rules w first before n s m ls (p ∷ ps) rest r h e hm l a =
     rw (
       append-assoc (packetYield ls p) (flatMap (packetYield ls) ps) rest,
       append-assoc (p .0) (innerYield ls (p .1)) (flatMap (packetYield ls) ps ++ rest),
     )
-    (begin-values limit w first before n s m ls (p .0) (innerYield ls (p .1) ++ (flatMap (packetYield ls) ps ++ rest)) r h e (omega (arith, a .0 .0)) (a .0 .1))
+    (begin-values rules w first before n s m ls (p .0) (innerYield ls (p .1) ++ (flatMap (packetYield ls) ps ++ rest)) r h e (omega (arith, a .0 .0)) (a .0 .1))
 
 -- what comes next is no value
 abbrev pub NoValue : List Token → Type 0
@@ -243,36 +245,36 @@ pub not-value : (s k : Sort) → s ≡ k → (k ≡ Sort.value → ⊥) → s �
 not-value s k e h q = h (cc)
 
 -- after a loop's packets, where no value comes: as between the entries of the set
-after-loop-step : (limit : ℕ) (w : Where) (l : Level) (ls : List ℕ) (s : Sort) (r : Rows) → (s ≡ Sort.value → ⊥)
-    → step limit (body w [] l ls 0) s r ≡ step limit (within w) s r
+after-loop-step : (rules : Rules) (w : Where) (l : Level) (ls : List ℕ) (s : Sort) (r : Rows) → (s ≡ Sort.value → ⊥)
+    → step rules (body w [] l ls 0) s r ≡ step rules (within w) s r
 unfolding step bodyStep noValueAt noValue between
-after-loop-step limit w l ls Sort.block r h = refl
-after-loop-step limit w l ls Sort.frame r h = refl
-after-loop-step limit w l ls Sort.frameEnd r h = refl
-after-loop-step limit w l ls Sort.loop r h = refl
-after-loop-step limit w l ls Sort.stop r h = refl
-after-loop-step limit w l ls Sort.name r h = refl
-after-loop-step limit w l ls Sort.value r h = absurd (h refl)
-after-loop-step limit (inBlock b) l ls Sort.global r h = refl
-after-loop-step limit (inFrame b s) l ls Sort.global r h = refl
+after-loop-step rules w l ls Sort.block r h = refl
+after-loop-step rules w l ls Sort.frame r h = refl
+after-loop-step rules w l ls Sort.frameEnd r h = refl
+after-loop-step rules w l ls Sort.loop r h = refl
+after-loop-step rules w l ls Sort.stop r h = refl
+after-loop-step rules w l ls Sort.name r h = refl
+after-loop-step rules w l ls Sort.value r h = absurd (h refl)
+after-loop-step rules (inBlock b) l ls Sort.global r h = refl
+after-loop-step rules (inFrame b s) l ls Sort.global r h = refl
 
-pub after-loop : (limit : ℕ) (w : Where) (l : Level) (ls : List ℕ) (ts : List Token) (r : Rows) → NoValue ts
-    → run limit (body w [] l ls 0) ts r ≡ run limit (within w) ts r
+pub after-loop : (rules : Rules) (w : Where) (l : Level) (ls : List ℕ) (ts : List Token) (r : Rows) → NoValue ts
+    → run rules (body w [] l ls 0) ts r ≡ run rules (within w) ts r
 unfolding run endRun endBody
-after-loop limit w l ls [] r h = refl
-after-loop limit w l ls (t ∷ ts) r h =
-    run-alike limit (body w [] l ls 0) (within w) t ts r (after-loop-step limit w l ls (sortOf (t .kind)) r h)
+after-loop rules w l ls [] r h = refl
+after-loop rules w l ls (t ∷ ts) r h =
+    run-alike rules (body w [] l ls 0) (within w) t ts r (after-loop-step rules w l ls (sortOf (t .kind)) r h)
 
-pub step-loop : (limit : ℕ) (w : Where) (r : Rows)
-    → step limit (within w) Sort.loop r ≡ go (header w (next (r .names)) [] 0 0) (openLoop r)
+pub step-loop : (rules : Rules) (w : Where) (r : Rows)
+    → step rules (within w) Sort.loop r ≡ go (header w (next (r .names)) [] 0 0) (openLoop r)
 unfolding step between
-step-loop limit (inBlock s) r = refl
-step-loop limit (inFrame b s) r = refl
+step-loop rules (inBlock s) r = refl
+step-loop rules (inFrame b s) r = refl
 
-pub step-item : (limit : ℕ) (w : Where) (r : Rows) → step limit (within w) Sort.name r ≡ go (named w) (putName (setOf w) 0 0 r)
+pub step-item : (rules : Rules) (w : Where) (r : Rows) → step rules (within w) Sort.name r ≡ go (named w) (putName (setOf w) 0 0 r)
 unfolding step between setOf
-step-item limit (inBlock s) r = refl
-step-item limit (inFrame b s) r = refl
+step-item rules (inBlock s) r = refl
+step-item rules (inFrame b s) r = refl
 
 stops-loops : (k : ℕ) (r : Rows) → putStops k r .loops ≡ r .loops
 unfolding putStops pass
@@ -285,10 +287,10 @@ deeper-loops set loop level [] r = refl
 deeper-loops set loop level (ns ∷ nss) r =
     deeper-loops set loop (suc level) nss (putNames set loop level ns (pass r)) ∙ names-loops set loop level ns (pass r)
 
-loop-run : (limit : ℕ) (w : Where) (l : Loop) (rest : List Token) (r : Rows) → LoopWhole limit l → NoValue rest
-    → run limit (within w) (loopYield l ++ rest) r ≡ run limit (within w) rest (putLoop (setOf w) l r)
+loop-run : (rules : Rules) (w : Where) (l : Loop) (rest : List Token) (r : Rows) → LoopBy rules l → NoValue rest
+    → run rules (within w) (loopYield l ++ rest) r ≡ run rules (within w) rest (putLoop (setOf w) l r)
 unfolding loopYield putLoop openLoop parentOf
-loop-run limit w l rest r h nv =
+loop-run rules w l rest r h nv =
     let n : ℕ = length (l .names) in
     let ms : List ℕ = map length (l .deeper) in
     let first : ℕ = next (r .names) in
@@ -304,25 +306,25 @@ loop-run limit w l rest r h nv =
     let e₃ : r₃ .loops ≡ loop = stops-loops (l .stops) r₂ ∙ deeper-loops set loop 2 (l .deeper) r₁ ∙ e₁ in
     let c : Counts ms = map-counts (l .deeper) (h .some-names) in
     rw (append-assoc (l .names) (deeper ++ (stops ++ packets)) rest, append-assoc deeper (stops ++ packets) rest, append-assoc stops packets rest)
-    (run-go limit (within w) loopStart (l .names ++ (deeper ++ (stops ++ (packets ++ rest)))) r Sort.loop (header w first [] 0 0) (openLoop r)
-    sort-loop (step-loop limit w r)
-    ∙ (rw (zero-add n) at (names-run limit w first [] 0 (l .names) (deeper ++ (stops ++ (packets ++ rest))) (openLoop r) (h .are-names)))
-    ∙ deeper-run limit w first [] n loop (l .deeper) (stops ++ (packets ++ rest)) r₁ (h .some-name) (omega (arith, h .levels)) (h .some-names) (h .are-deeper) e₁
-    ∙ (rw (zero-add (l .stops)) at (stops-run limit w first (beforeOf [] n ms) (lastOf n ms) 0 (l .stops) (packets ++ rest) r₂
-    (last-some n ms (h .some-name) c) (simp (before-length, length-map) (omega (arith, h .stops-fit)))))
-    ∙ begin-packets limit w first (beforeOf [] n ms) (lastOf n ms) (l .stops) n ms (l .packets) rest r₃ (last-some n ms (h .some-name) c)
+    (run-go rules (within w) loopStart (l .names ++ (deeper ++ (stops ++ (packets ++ rest)))) r Sort.loop (header w first [] 0 0) (openLoop r)
+    sort-loop (step-loop rules w r)
+    ∙ (rw (zero-add n) at (names-run rules w first [] 0 (l .names) (deeper ++ (stops ++ (packets ++ rest))) (openLoop r) (h .are-names)))
+    ∙ deeper-run rules w first [] n loop (l .deeper) (stops ++ (packets ++ rest)) r₁ (h .some-name) (omega (arith, h .levels)) (h .some-names) (h .are-deeper) e₁
+    ∙ (rw (zero-add (l .stops)) at (stops-run rules w first (beforeOf [] n ms) (lastOf n ms) 0 (l .stops) (packets ++ rest) r₂
+    (last-some n ms (h .some-name) c) (simp (before-length, length-map) (omega (arith, h .stops-fit))) (h .stops-allowed)))
+    ∙ begin-packets rules w first (beforeOf [] n ms) (lastOf n ms) (l .stops) n ms (l .packets) rest r₃ (last-some n ms (h .some-name) c)
     (before-reverse [] n ms) (h .some-name) (h .some-packet) (h .whole)
-    ∙ packets-run limit w ms (inner-run limit ms) c [] n first 0 loop (h .some-name) (l .packets) rest r₃ e₃ (h .whole)
-    ∙ after-loop limit w (level n first 0) ms rest (fold (putPacketTree n ms loop 1 first 0) (l .packets) r₃) nv)
+    ∙ packets-run rules w ms (inner-run rules ms) c [] n first 0 loop (h .some-name) (l .packets) rest r₃ e₃ (h .whole)
+    ∙ after-loop rules w (level n first 0) ms rest (fold (putPacketTree n ms loop 1 first 0) (l .packets) r₃) nv)
 
-entry-run : (limit : ℕ) (w : Where) (e : Entry) (rest : List Token) (r : Rows) → EntryWhole limit e → NoValue rest
-    → run limit (within w) (entryYield e ++ rest) r ≡ run limit (within w) rest (putEntry (setOf w) e r)
-unfolding entryYield EntryWhole putEntry putName step namedStep
-entry-run limit w (item n v) rest r h nv =
-    run-go limit (within w) n (v ∷ rest) r Sort.name (named w) (putName (setOf w) 0 0 r) (sort-name n (h .0)) (step-item limit w r)
-    ∙ run-sort limit (named w) v rest (putName (setOf w) 0 0 r) Sort.value (sort-value v (h .1))
+entry-run : (rules : Rules) (w : Where) (e : Entry) (rest : List Token) (r : Rows) → EntryBy rules e → NoValue rest
+    → run rules (within w) (entryYield e ++ rest) r ≡ run rules (within w) rest (putEntry (setOf w) e r)
+unfolding entryYield putEntry putName step namedStep
+entry-run rules w (item n v) rest r h nv =
+    run-go rules (within w) n (v ∷ rest) r Sort.name (named w) (putName (setOf w) 0 0 r) (sort-name n (h .0)) (step-item rules w r)
+    ∙ run-sort rules (named w) v rest (putName (setOf w) 0 0 r) Sort.value (sort-value v (h .1))
     ∙ rw (length-append (r .names), add-one (length (r .names)))
-entry-run limit w (looped l) rest r h nv = loop-run limit w l rest r h nv
+entry-run rules w (looped l) rest r h nv = loop-run rules w l rest r h nv
 
 name≢value : Sort.name ≡ Sort.value → ⊥
 name≢value e = let z : _≡_ {A = ℕ} 0 1 = cc in omega arith
@@ -340,89 +342,89 @@ block≢value : Sort.block ≡ Sort.value → ⊥
 block≢value e = let z : _≡_ {A = ℕ} 0 1 = cc in omega arith
 
 -- no piece between values begins with one
-entry-no-value : (limit : ℕ) (e : Entry) (rest : List Token) → EntryWhole limit e → NoValue (entryYield e ++ rest)
-unfolding entryYield EntryWhole loopYield
-entry-no-value limit (item n v) rest h = not-value _ _ (sort-name n (h .0)) name≢value
-entry-no-value limit (looped l) rest h = not-value _ _ sort-loop loop≢value
+entry-no-value : (rules : Rules) (e : Entry) (rest : List Token) → EntryBy rules e → NoValue (entryYield e ++ rest)
+unfolding entryYield loopYield
+entry-no-value rules (item n v) rest h = not-value _ _ (sort-name n (h .0)) name≢value
+entry-no-value rules (looped l) rest h = not-value _ _ sort-loop loop≢value
 
-pub entries-no-value : (limit : ℕ) (es : List Entry) (rest : List Token) → Each (EntryWhole limit) es → NoValue rest
+pub entries-no-value : (rules : Rules) (es : List Entry) (rest : List Token) → Each (EntryBy rules) es → NoValue rest
     → NoValue (flatMap entryYield es ++ rest)
 unfolding flatMap
-entries-no-value limit [] rest h nv = nv
-entries-no-value limit (e ∷ es) rest h nv =
-    rw (append-assoc (entryYield e) (flatMap entryYield es) rest) (entry-no-value limit e (flatMap entryYield es ++ rest) (h .0))
+entries-no-value rules [] rest h nv = nv
+entries-no-value rules (e ∷ es) rest h nv =
+    rw (append-assoc (entryYield e) (flatMap entryYield es) rest) (entry-no-value rules e (flatMap entryYield es ++ rest) (h .0))
 
-pub entries-run : (limit : ℕ) (w : Where) (es : List Entry) (rest : List Token) (r : Rows) → Each (EntryWhole limit) es → NoValue rest
-    → run limit (within w) (flatMap entryYield es ++ rest) r ≡ run limit (within w) rest (fold (putEntry (setOf w)) es r)
+pub entries-run : (rules : Rules) (w : Where) (es : List Entry) (rest : List Token) (r : Rows) → Each (EntryBy rules) es → NoValue rest
+    → run rules (within w) (flatMap entryYield es ++ rest) r ≡ run rules (within w) rest (fold (putEntry (setOf w)) es r)
 unfolding flatMap
-entries-run limit w [] rest r h nv = refl
-entries-run limit w (e ∷ es) rest r h nv =
+entries-run rules w [] rest r h nv = refl
+entries-run rules w (e ∷ es) rest r h nv =
     rw (append-assoc (entryYield e) (flatMap entryYield es) rest)
-    (entry-run limit w e (flatMap entryYield es ++ rest) r (h .0) (entries-no-value limit es rest (h .1) nv)
-    ∙ entries-run limit w es rest (putEntry (setOf w) e r) (h .1) nv)
+    (entry-run rules w e (flatMap entryYield es ++ rest) r (h .0) (entries-no-value rules es rest (h .1) nv)
+    ∙ entries-run rules w es rest (putEntry (setOf w) e r) (h .1) nv)
 
-frame-run : (limit b : ℕ) (f : Frame) (rest : List Token) (r : Rows) → FrameWhole limit f
-    → run limit (within (inBlock b)) (frameYield f ++ rest) r ≡ run limit (within (inBlock b)) rest (putFrame b f r)
+frame-run : (rules : Rules) (b : ℕ) (f : Frame) (rest : List Token) (r : Rows) → FrameBy rules f
+    → run rules (within (inBlock b)) (frameYield f ++ rest) r ≡ run rules (within (inBlock b)) rest (putFrame b f r)
 unfolding frameYield putFrame step between setOf
-frame-run limit b f rest r h =
+frame-run rules b f rest r h =
     let s : ℕ = next (r .sets) in
     rw (append-assoc (flatMap entryYield (f .entries)) (frameEnd ∷ []) rest)
-    (run-sort limit (within (inBlock b)) (f .heading) (flatMap entryYield (f .entries) ++ (frameEnd ∷ rest)) r Sort.frame (sort-frame (f .heading) (h .heading))
-    ∙ entries-run limit (inFrame b s) (f .entries) (frameEnd ∷ rest) (putSet 2 b r) (h .entries) (not-value _ _ sort-frame-end frameEnd≢value)
-    ∙ run-sort limit (within (inFrame b s)) frameEnd rest (fold (putEntry s) (f .entries) (putSet 2 b r)) Sort.frameEnd sort-frame-end)
+    (run-sort rules (within (inBlock b)) (f .heading) (flatMap entryYield (f .entries) ++ (frameEnd ∷ rest)) r Sort.frame (sort-frame (f .heading) (h .heading))
+    ∙ entries-run rules (inFrame b s) (f .entries) (frameEnd ∷ rest) (putSet 2 b r) (h .entries) (not-value _ _ sort-frame-end frameEnd≢value)
+    ∙ run-sort rules (within (inFrame b s)) frameEnd rest (fold (putEntry s) (f .entries) (putSet 2 b r)) Sort.frameEnd sort-frame-end)
 
-member-run : (limit b : ℕ) (m : Member) (rest : List Token) (r : Rows) → MemberWhole limit m → NoValue rest
-    → run limit (within (inBlock b)) (memberYield m ++ rest) r ≡ run limit (within (inBlock b)) rest (putMember b m r)
-unfolding memberYield MemberWhole putMember setOf
-member-run limit b (own e) rest r h nv = entry-run limit (inBlock b) e rest r h nv
-member-run limit b (framed f) rest r h nv = frame-run limit b f rest r h
+member-run : (rules : Rules) (b : ℕ) (m : Member) (rest : List Token) (r : Rows) → MemberBy rules m → NoValue rest
+    → run rules (within (inBlock b)) (memberYield m ++ rest) r ≡ run rules (within (inBlock b)) rest (putMember b m r)
+unfolding memberYield putMember setOf
+member-run rules b (own e) rest r h nv = entry-run rules (inBlock b) e rest r h nv
+member-run rules b (framed f) rest r h nv = frame-run rules b f rest r h
 
-member-no-value : (limit : ℕ) (m : Member) (rest : List Token) → MemberWhole limit m → NoValue (memberYield m ++ rest)
-unfolding memberYield MemberWhole frameYield
-member-no-value limit (own e) rest h = entry-no-value limit e rest h
-member-no-value limit (framed f) rest h = not-value _ _ (sort-frame (f .heading) (h .heading)) frame≢value
+member-no-value : (rules : Rules) (m : Member) (rest : List Token) → MemberBy rules m → NoValue (memberYield m ++ rest)
+unfolding memberYield frameYield
+member-no-value rules (own e) rest h = entry-no-value rules e rest h
+member-no-value rules (framed f) rest h = not-value _ _ (sort-frame (f .heading) (h .heading)) frame≢value
 
-pub members-no-value : (limit : ℕ) (ms : List Member) (rest : List Token) → Each (MemberWhole limit) ms → NoValue rest
+pub members-no-value : (rules : Rules) (ms : List Member) (rest : List Token) → Each (MemberBy rules) ms → NoValue rest
     → NoValue (flatMap memberYield ms ++ rest)
 unfolding flatMap
-members-no-value limit [] rest h nv = nv
-members-no-value limit (m ∷ ms) rest h nv =
-    rw (append-assoc (memberYield m) (flatMap memberYield ms) rest) (member-no-value limit m (flatMap memberYield ms ++ rest) (h .0))
+members-no-value rules [] rest h nv = nv
+members-no-value rules (m ∷ ms) rest h nv =
+    rw (append-assoc (memberYield m) (flatMap memberYield ms) rest) (member-no-value rules m (flatMap memberYield ms ++ rest) (h .0))
 
-pub members-run : (limit b : ℕ) (ms : List Member) (rest : List Token) (r : Rows) → Each (MemberWhole limit) ms → NoValue rest
-    → run limit (within (inBlock b)) (flatMap memberYield ms ++ rest) r ≡ run limit (within (inBlock b)) rest (fold (putMember b) ms r)
+pub members-run : (rules : Rules) (b : ℕ) (ms : List Member) (rest : List Token) (r : Rows) → Each (MemberBy rules) ms → NoValue rest
+    → run rules (within (inBlock b)) (flatMap memberYield ms ++ rest) r ≡ run rules (within (inBlock b)) rest (fold (putMember b) ms r)
 unfolding flatMap
-members-run limit b [] rest r h nv = refl
-members-run limit b (m ∷ ms) rest r h nv =
+members-run rules b [] rest r h nv = refl
+members-run rules b (m ∷ ms) rest r h nv =
     rw (append-assoc (memberYield m) (flatMap memberYield ms) rest)
-    (member-run limit b m (flatMap memberYield ms ++ rest) r (h .0) (members-no-value limit ms rest (h .1) nv)
-    ∙ members-run limit b ms rest (putMember b m r) (h .1) nv)
+    (member-run rules b m (flatMap memberYield ms ++ rest) r (h .0) (members-no-value rules ms rest (h .1) nv)
+    ∙ members-run rules b ms rest (putMember b m r) (h .1) nv)
 
-pub file-no-value : (limit : ℕ) (f : File) → FileWhole limit f → NoValue (fileYield f)
+pub file-no-value : (rules : Rules) (f : File) → FileBy rules f → NoValue (fileYield f)
 unfolding flatMap blockYield
-file-no-value limit [] h = tt
-file-no-value limit (b ∷ f) h = not-value _ _ (sort-block (b .heading) (h .0 .heading)) block≢value
+file-no-value rules [] h = tt
+file-no-value rules (b ∷ f) h = not-value _ _ (sort-block (b .heading) (h .0 .heading)) block≢value
 
 -- the blocks of a file, after one
-pub blocks-run : (limit s : ℕ) (f : File) (r : Rows) → FileWhole limit f
-    → run limit (within (inBlock s)) (fileYield f) r ≡ good (fold putBlock f r)
+pub blocks-run : (rules : Rules) (s : ℕ) (f : File) (r : Rows) → FileBy rules f
+    → run rules (within (inBlock s)) (fileYield f) r ≡ good (fold putBlock f r)
 unfolding flatMap blockYield putBlock step between run endRun endBetween
-blocks-run limit s [] r h = refl
-blocks-run limit s (b ∷ f) r h =
-    run-sort limit (within (inBlock s)) (b .heading) (flatMap memberYield (b .members) ++ fileYield f) r Sort.block (sort-block (b .heading) (h .0 .heading))
-    ∙ members-run limit (next (r .sets)) (b .members) (fileYield f) (putSet 1 0 r) (h .0 .members) (file-no-value limit f (h .1))
-    ∙ blocks-run limit (next (r .sets)) f (putBlock b r) (h .1)
+blocks-run rules s [] r h = refl
+blocks-run rules s (b ∷ f) r h =
+    run-sort rules (within (inBlock s)) (b .heading) (flatMap memberYield (b .members) ++ fileYield f) r Sort.block (sort-block (b .heading) (h .0 .heading))
+    ∙ members-run rules (next (r .sets)) (b .members) (fileYield f) (putSet 1 0 r) (h .0 .members) (file-no-value rules f (h .1))
+    ∙ blocks-run rules (next (r .sets)) f (putBlock b r) (h .1)
 
 -- the blocks of a file, from its start
-pub file-run : (limit : ℕ) (f : File) (r : Rows) → FileWhole limit f → run limit start (fileYield f) r ≡ good (fold putBlock f r)
+pub file-run : (rules : Rules) (f : File) (r : Rows) → FileBy rules f → run rules start (fileYield f) r ≡ good (fold putBlock f r)
 unfolding flatMap blockYield run endRun step startStep between
-file-run limit [] r h = refl
-file-run limit (b ∷ f) r h =
-    run-alike limit start (within (inBlock 0)) (b .heading) (flatMap memberYield (b .members) ++ fileYield f) r
+file-run rules [] r h = refl
+file-run rules (b ∷ f) r h =
+    run-alike rules start (within (inBlock 0)) (b .heading) (flatMap memberYield (b .members) ++ fileYield f) r
     (rw (sort-block (b .heading) (h .0 .heading)))
-    ∙ blocks-run limit 0 (b ∷ f) r h
+    ∙ blocks-run rules 0 (b ∷ f) r h
 
 -- a run over the tokens of a whole tree makes the tree's rows
-pub complete : (limit : ℕ) (f : File) → FileWhole limit f → run limit start (fileYield f) noRows ≡ good (rowsOf f)
+pub complete : (rules : Rules) (f : File) → FileBy rules f → run rules start (fileYield f) noRows ≡ good (rowsOf f)
 unfolding rowsOf
-complete limit f h = file-run limit f noRows h
+complete rules f h = file-run rules f noRows h

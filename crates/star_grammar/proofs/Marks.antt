@@ -6,6 +6,7 @@ use mathlib.Core.List.{List, [], _∷_, reverseAux}
 use Prim.Native.Nat.{ℕ, zero, suc}
 use lib.Dec.{eqb, ltb}
 use lib.ListN.{length}
+use Rattle.star_lex.specs.Rules.{Rules}
 use Rattle.star_lex.specs.Tokens.{Token}
 use Rattle.star_grammar.specs.Tables.{Rows}
 use Rattle.star_grammar.specs.Machine.{Sort, sortOf, Where, inBlock, inFrame, Level, State, start, within, named, header, body, Step, go, between, filled, fill, valueAt, begin, headerStep, noValue, noValueAt, bodyStep, startStep, namedStep, step, walk}
@@ -80,19 +81,19 @@ unfolding begin
 begin-marked w first [] r = tt
 begin-marked w first (m ∷ inner) r = value-marked w [] _ inner 0 r
 
-header-marked : (limit : ℕ) (w : Where) (first : ℕ) (before : List ℕ) (n s : ℕ) (k : Sort) (r : Rows) (b : Bool) → b ≡ false
-    → TakenMarked k b (headerStep limit w first before n s k r)
+header-marked : (rules : Rules) (w : Where) (first : ℕ) (before : List ℕ) (n s : ℕ) (k : Sort) (r : Rows) (b : Bool) → b ≡ false
+    → TakenMarked k b (headerStep rules w first before n s k r)
 unfolding headerStep
-header-marked limit w first before n s Sort.block r b h = tt
-header-marked limit w first before n s Sort.frame r b h = tt
-header-marked limit w first before n s Sort.frameEnd r b h = tt
-header-marked limit w first before n s Sort.loop r b h =
-    taken-cond _ (ltb 0 n && eqb s 0) _ _ (λ e. taken-cond _ (ltb (suc (length before)) limit) _ _ (λ d. refl) (λ d. tt)) (λ e. tt)
-header-marked limit w first before n s Sort.stop r b h = taken-cond _ (ltb 0 n && ltb s (length before)) _ _ (λ e. h) (λ e. tt)
-header-marked limit w first before n s Sort.name r b h = taken-cond _ (eqb s 0) _ _ (λ e. refl) (λ e. tt)
-header-marked limit w first before n s Sort.value r b h =
+header-marked rules w first before n s Sort.block r b h = tt
+header-marked rules w first before n s Sort.frame r b h = tt
+header-marked rules w first before n s Sort.frameEnd r b h = tt
+header-marked rules w first before n s Sort.loop r b h =
+    taken-cond _ (ltb 0 n && eqb s 0) _ _ (λ e. taken-cond _ (ltb (suc (length before)) (rules .levels)) _ _ (λ d. refl) (λ d. tt)) (λ e. tt)
+header-marked rules w first before n s Sort.stop r b h = taken-cond _ (rules .headerStops && (ltb 0 n && ltb s (length before))) _ _ (λ e. h) (λ e. tt)
+header-marked rules w first before n s Sort.name r b h = taken-cond _ (eqb s 0) _ _ (λ e. refl) (λ e. tt)
+header-marked rules w first before n s Sort.value r b h =
     taken-cond _ (ltb 0 n) _ _ (λ e. begin-marked w first (reverseAux before (n ∷ [])) r) (λ e. tt)
-header-marked limit w first before n s Sort.global r b h = tt
+header-marked rules w first before n s Sort.global r b h = tt
 
 body-marked : (w : Where) (outer : List Level) (l : Level) (inner : List ℕ) (f : ℕ) (k : Sort) (r : Rows) (b : Bool) → b ≡ true
     → TakenMarked k b (bodyStep w outer l inner f k r)
@@ -140,18 +141,18 @@ named-marked w Sort.name r b = tt
 named-marked w Sort.value r b = tt
 named-marked w Sort.global r b = tt
 
-step-marked : (limit : ℕ) (st : State) (k : Sort) (r : Rows) (b : Bool) → Marked st b → TakenMarked k b (step limit st k r)
+step-marked : (rules : Rules) (st : State) (k : Sort) (r : Rows) (b : Bool) → Marked st b → TakenMarked k b (step rules st k r)
 unfolding step
-step-marked limit start k r b h = start-marked k r b
-step-marked limit (within w) k r b h = between-marked w k r b
-step-marked limit (named w) k r b h = named-marked w k r b
-step-marked limit (header w first before n s) k r b h = header-marked limit w first before n s k r b h
-step-marked limit (body w outer l inner f) k r b h = body-marked w outer l inner f k r b h
+step-marked rules start k r b h = start-marked k r b
+step-marked rules (within w) k r b h = between-marked w k r b
+step-marked rules (named w) k r b h = named-marked w k r b
+step-marked rules (header w first before n s) k r b h = header-marked rules w first before n s k r b h
+step-marked rules (body w outer l inner f) k r b h = body-marked w outer l inner f k r b h
 
-pub walk-marked : (limit : ℕ) (st s : State) (p : List Token) (r u : Rows) (b : Bool) → walk limit st p r ≡ go s u → Marked st b → Marked s (marks b p)
-walk-marked limit st s p r u b e h =
-    walk-induction limit (λ st′ q v. (c : Bool) → Marked st′ c → Marked s (marks c q)) s u (λ c m. m)
-    (λ st′ s′ t q v v′ g later c m. later (mark (sortOf (t .kind)) c) (rw g at (step-marked limit st′ (sortOf (t .kind)) v c m))) p st r e b h
+pub walk-marked : (rules : Rules) (st s : State) (p : List Token) (r u : Rows) (b : Bool) → walk rules st p r ≡ go s u → Marked st b → Marked s (marks b p)
+walk-marked rules st s p r u b e h =
+    walk-induction rules (λ st′ q v. (c : Bool) → Marked st′ c → Marked s (marks c q)) s u (λ c m. m)
+    (λ st′ s′ t q v v′ g later c m. later (mark (sortOf (t .kind)) c) (rw g at (step-marked rules st′ (sortOf (t .kind)) v c m))) p st r e b h
 
 pub packet-marked : (st : State) (b : Bool) → InPacket st → Marked st b → b ≡ true
 packet-marked start b h m = absurd h
@@ -163,7 +164,7 @@ packet-marked (body w outer l inner f) b h m = m
 -- outside packets no value has come, or a name may come next
 pub data Outside (st : State) : Type 0 where
   valueless : ((b : Bool) → Marked st b → b ≡ false) → Outside st
-  nameable : ((limit : ℕ) (r : Rows) → (s : State) × (u : Rows) × (step limit st Sort.name r ≡ go s u)) → Outside st
+  nameable : ((rules : Rules) (r : Rows) → (s : State) × (u : Rows) × (step rules st Sort.name r ≡ go s u)) → Outside st
 
 between-name : (w : Where) (r : Rows) → (s : State) × (u : Rows) × (between w Sort.name r ≡ go s u)
 unfolding between
@@ -173,9 +174,9 @@ between-name (inFrame b s) r = (_, _, refl)
 pub outside : (st : State) → (InPacket st → ⊥) → Outside st
 unfolding step bodyStep noValueAt noValue
 outside start h = Outside.valueless (λ b m. m)
-outside (within w) h = Outside.nameable (λ limit r. between-name w r)
+outside (within w) h = Outside.nameable (λ rules r. between-name w r)
 outside (named w) h = Outside.valueless (λ b m. m)
 outside (header w first before n s) h = Outside.valueless (λ b m. m)
 outside (body w outer l inner (suc f)) h = absurd (h tt)
-outside (body w [] l inner zero) h = Outside.nameable (λ limit r. between-name w r)
+outside (body w [] l inner zero) h = Outside.nameable (λ rules r. between-name w r)
 outside (body w (o ∷ outer) l inner zero) h = absurd (h tt)

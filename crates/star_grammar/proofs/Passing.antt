@@ -6,6 +6,7 @@ use Prim.Native.Nat.{ℕ, zero, suc, _+_}
 use native.Mathlib.Omega.{arith}
 use lib.Dec.{eqb, ltb}
 use lib.ListN.{length}
+use Rattle.star_lex.specs.Rules.{Rules}
 use Rattle.star_lex.specs.Tokens.{Token}
 use Rattle.star_grammar.specs.Tables.{Rows, noRows, pass, openLoop, putSet, putName, putPacket, putValue}
 use Rattle.star_grammar.specs.Machine.{Sort, sortOf, Where, inBlock, inFrame, Level, State, start, within, named, header, body, Step, go, refuse, between, fill, valueAt, begin, headerStep, noValue, noValueAt, bodyStep, startStep, namedStep, step, bad, endBetween, endBody, endRun, walk}
@@ -50,19 +51,19 @@ unfolding begin
 begin-passes w first [] r = tt
 begin-passes w first (m ∷ inner) r = value-passes w [] _ inner 0 r
 
-header-passes : (limit : ℕ) (w : Where) (first : ℕ) (before : List ℕ) (n s : ℕ) (k : Sort) (r : Rows)
-    → Passes (r .tokens) (headerStep limit w first before n s k r)
+header-passes : (rules : Rules) (w : Where) (first : ℕ) (before : List ℕ) (n s : ℕ) (k : Sort) (r : Rows)
+    → Passes (r .tokens) (headerStep rules w first before n s k r)
 unfolding headerStep pass putName
-header-passes limit w first before n s Sort.block r = tt
-header-passes limit w first before n s Sort.frame r = tt
-header-passes limit w first before n s Sort.frameEnd r = tt
-header-passes limit w first before n s Sort.loop r =
-    passes-cond (r .tokens) (ltb 0 n && eqb s 0) _ _ (passes-cond (r .tokens) (ltb (suc (length before)) limit) _ _ refl tt) tt
-header-passes limit w first before n s Sort.stop r = passes-cond (r .tokens) (ltb 0 n && ltb s (length before)) _ _ refl tt
-header-passes limit w first before n s Sort.name r = passes-cond (r .tokens) (eqb s 0) _ _ refl tt
-header-passes limit w first before n s Sort.value r =
+header-passes rules w first before n s Sort.block r = tt
+header-passes rules w first before n s Sort.frame r = tt
+header-passes rules w first before n s Sort.frameEnd r = tt
+header-passes rules w first before n s Sort.loop r =
+    passes-cond (r .tokens) (ltb 0 n && eqb s 0) _ _ (passes-cond (r .tokens) (ltb (suc (length before)) (rules .levels)) _ _ refl tt) tt
+header-passes rules w first before n s Sort.stop r = passes-cond (r .tokens) (rules .headerStops && (ltb 0 n && ltb s (length before))) _ _ refl tt
+header-passes rules w first before n s Sort.name r = passes-cond (r .tokens) (eqb s 0) _ _ refl tt
+header-passes rules w first before n s Sort.value r =
     passes-cond (r .tokens) (ltb 0 n) _ _ (begin-passes w first (reverseAux before (n ∷ [])) r) tt
-header-passes limit w first before n s Sort.global r = tt
+header-passes rules w first before n s Sort.global r = tt
 
 no-value-passes : (w : Where) (outer : List Level) (l : Level) (inner : List ℕ) (f : ℕ) (k : Sort) (r : Rows)
     → Passes (r .tokens) (noValueAt w outer l inner f k r)
@@ -112,23 +113,23 @@ named-passes w Sort.name r = tt
 named-passes w Sort.value r = refl
 named-passes w Sort.global r = tt
 
-step-passes : (limit : ℕ) (st : State) (k : Sort) (r : Rows) → Passes (r .tokens) (step limit st k r)
+step-passes : (rules : Rules) (st : State) (k : Sort) (r : Rows) → Passes (r .tokens) (step rules st k r)
 unfolding step
-step-passes limit start k r = start-passes k r
-step-passes limit (within w) k r = between-passes w k r
-step-passes limit (named w) k r = named-passes w k r
-step-passes limit (header w first before n s) k r = header-passes limit w first before n s k r
-step-passes limit (body w outer l inner f) k r = body-passes w outer l inner f k r
+step-passes rules start k r = start-passes k r
+step-passes rules (within w) k r = between-passes w k r
+step-passes rules (named w) k r = named-passes w k r
+step-passes rules (header w first before n s) k r = header-passes rules w first before n s k r
+step-passes rules (body w outer l inner f) k r = body-passes w outer l inner f k r
 
 -- a walk passes its tokens
-pub walk-passes : (limit : ℕ) (st st′ : State) (p : List Token) (r r′ : Rows) → walk limit st p r ≡ go st′ r′ → r′ .tokens ≡ r .tokens + length p
-walk-passes limit st st′ p r r′ e =
-    walk-induction limit (λ s q u. r′ .tokens ≡ u .tokens + length q) st′ r′ (omega arith)
-    (λ s s′ t q u u′ g later. let h : u′ .tokens ≡ suc (u .tokens) = rw g at (step-passes limit s (sortOf (t .kind)) u) in omega arith) p st r e
+pub walk-passes : (rules : Rules) (st st′ : State) (p : List Token) (r r′ : Rows) → walk rules st p r ≡ go st′ r′ → r′ .tokens ≡ r .tokens + length p
+walk-passes rules st st′ p r r′ e =
+    walk-induction rules (λ s q u. r′ .tokens ≡ u .tokens + length q) st′ r′ (omega arith)
+    (λ s s′ t q u u′ g later. let h : u′ .tokens ≡ suc (u .tokens) = rw g at (step-passes rules s (sortOf (t .kind)) u) in omega arith) p st r e
 
-pub walk-length : (limit : ℕ) (st : State) (p : List Token) (r : Rows) → walk limit start p noRows ≡ go st r → r .tokens ≡ length p
+pub walk-length : (rules : Rules) (st : State) (p : List Token) (r : Rows) → walk rules start p noRows ≡ go st r → r .tokens ≡ length p
 unfolding noRows
-walk-length limit st p r e = omega (arith, walk-passes limit start st p noRows r e)
+walk-length rules st p r e = omega (arith, walk-passes rules start st p noRows r e)
 
 -- an end that is out of place comes after the tokens passed
 pub end-passes : (st : State) (r : Rows) (n i : ℕ) → endRun st r ≡ bad n i → i ≡ r .tokens

@@ -1,4 +1,4 @@
--- Which number a refused step gives: 12 at `global_`; 11 at a `loop_` that a larger limit would take; 10 in a packet that lacks values or while an
+-- Which number a refused step gives: 12 at `global_`; 11 at a `loop_` that more levels would allow; 10 in a packet that lacks values or while an
 -- inner level is open; 8 elsewhere. By cases on states and sorts.
 use mathlib.Core.Path.{_≡_, refl}
 use mathlib.Core.Bool.{Bool, true, false, cond, _&&_}
@@ -8,6 +8,7 @@ use native.Mathlib.Omega.{arith}
 use lib.Dec.{eqb, ltb}
 use lib.ListN.{length, length-reverseAux}
 use borrow.Author.Tests.{ltb-false, lt-ltb}
+use Rattle.star_lex.specs.Rules.{Rules, atLevels}
 use Rattle.star_grammar.specs.Tables.{Rows, pass}
 use Rattle.star_grammar.specs.Machine.{Sort, Where, inBlock, inFrame, Level, State, start, within, named, header, body, Step, go, refuse, between, fill, valueAt, begin, headerStep, noValue, noValueAt, bodyStep, startStep, namedStep, step, Run, bad, good, endBetween, endBody, endRun}
 
@@ -22,11 +23,11 @@ InPacket (body w [] l inner zero) = ⊥
 InPacket (body w (o ∷ outer) l inner zero) = Unit {0}
 
 -- why a step refuses
-pub data Refusal (limit : ℕ) (st : State) (k : Sort) (r : Rows) : ℕ → Type 0 where
-  global : k ≡ Sort.global → Refusal limit st k r 12
-  deep : (more : ℕ) → limit ≤ more → (s : State) (u : Rows) → step more st k r ≡ go s u → Refusal limit st k r 11
-  packet : InPacket st → ((l : ℕ) → step l st k r ≡ refuse 10) → Refusal limit st k r 10
-  other : (InPacket st → ⊥) → ((l : ℕ) → step l st k r ≡ refuse 8) → Refusal limit st k r 8
+pub data Refusal (rules : Rules) (st : State) (k : Sort) (r : Rows) : ℕ → Type 0 where
+  global : k ≡ Sort.global → Refusal rules st k r 12
+  deep : (more : ℕ) → rules .levels ≤ more → (s : State) (u : Rows) → step (atLevels rules more) st k r ≡ go s u → Refusal rules st k r 11
+  packet : InPacket st → ((l : ℕ) → step (atLevels rules l) st k r ≡ refuse 10) → Refusal rules st k r 10
+  other : (InPacket st → ⊥) → ((l : ℕ) → step (atLevels rules l) st k r ≡ refuse 8) → Refusal rules st k r 8
 
 -- a property of the number of a step, if it is refused
 abbrev Refused : (ℕ → Type 0) → Step → Type 0
@@ -47,9 +48,9 @@ unfolding begin
 begin-refused P w first [] r h = absurd (omega arith)
 begin-refused P w first (m ∷ inner) r h = value-refused P w [] _ inner 0 r
 
-module _ (limit : ℕ) where
-  between-refusal : (st : State) → (InPacket st → ⊥) → (w : Where) (k : Sort) (r : Rows) → ((l : ℕ) → step l st k r ≡ between w k r)
-      → Refused (Refusal limit st k r) (between w k r)
+module _ (rules : Rules) where
+  between-refusal : (st : State) → (InPacket st → ⊥) → (w : Where) (k : Sort) (r : Rows) → ((l : ℕ) → step (atLevels rules l) st k r ≡ between w k r)
+      → Refused (Refusal rules st k r) (between w k r)
   unfolding between
   between-refusal st h (inBlock s) Sort.block r e = tt
   between-refusal st h (inBlock s) Sort.frame r e = tt
@@ -69,19 +70,19 @@ module _ (limit : ℕ) where
   between-refusal st h (inFrame b s) Sort.global r e = Refusal.global refl
 
   header-refusal : (w : Where) (first : ℕ) (before : List ℕ) (n s : ℕ) (k : Sort) (r : Rows)
-      → Refused (Refusal limit (header w first before n s) k r) (headerStep limit w first before n s k r)
+      → Refused (Refusal rules (header w first before n s) k r) (headerStep rules w first before n s k r)
   unfolding step headerStep
   header-refusal w first before n s Sort.block r = Refusal.other (λ x. x) (λ l. refl)
   header-refusal w first before n s Sort.frame r = Refusal.other (λ x. x) (λ l. refl)
   header-refusal w first before n s Sort.frameEnd r = Refusal.other (λ x. x) (λ l. refl)
   header-refusal w first before n s Sort.loop r =
       refused-cond _ (ltb 0 n && eqb s 0) _ _
-      (λ e. refused-cond _ (ltb (suc (length before)) limit) _ _ (λ d. tt)
-      (λ d. Refusal.deep (suc (suc (length before))) (omega (arith, ltb-false (suc (length before)) limit d)) (header w first (n ∷ before) 0 0) (pass r)
+      (λ e. refused-cond _ (ltb (suc (length before)) (rules .levels)) _ _ (λ d. tt)
+      (λ d. Refusal.deep (suc (suc (length before))) (omega (arith, ltb-false (suc (length before)) (rules .levels) d)) (header w first (n ∷ before) 0 0) (pass r)
       (rw (e, lt-ltb (suc (length before)) (suc (suc (length before))) (omega arith)))))
       (λ e. Refusal.other (λ x. x) (λ l. rw e))
   header-refusal w first before n s Sort.stop r =
-      refused-cond _ (ltb 0 n && ltb s (length before)) _ _ (λ e. tt) (λ e. Refusal.other (λ x. x) (λ l. rw e))
+      refused-cond _ (rules .headerStops && (ltb 0 n && ltb s (length before))) _ _ (λ e. tt) (λ e. Refusal.other (λ x. x) (λ l. rw e))
   header-refusal w first before n s Sort.name r = refused-cond _ (eqb s 0) _ _ (λ e. tt) (λ e. Refusal.other (λ x. x) (λ l. rw e))
   header-refusal w first before n s Sort.value r =
       refused-cond _ (ltb 0 n) _ _
@@ -90,7 +91,7 @@ module _ (limit : ℕ) where
   header-refusal w first before n s Sort.global r = Refusal.global refl
 
   body-refusal : (w : Where) (outer : List Level) (l : Level) (inner : List ℕ) (f : ℕ) (k : Sort) (r : Rows)
-      → Refused (Refusal limit (body w outer l inner f) k r) (bodyStep w outer l inner f k r)
+      → Refused (Refusal rules (body w outer l inner f) k r) (bodyStep w outer l inner f k r)
   unfolding step bodyStep noValueAt noValue
   body-refusal w outer l inner f Sort.value r = value-refused _ w outer l inner f r
   body-refusal w outer l inner f Sort.global r = Refusal.global refl
@@ -113,7 +114,7 @@ module _ (limit : ℕ) where
   body-refusal w (o ∷ outer) l inner zero Sort.stop r = tt
   body-refusal w (o ∷ outer) l inner zero Sort.name r = Refusal.packet tt (λ l. refl)
 
-  start-refusal : (k : Sort) (r : Rows) → Refused (Refusal limit start k r) (startStep k r)
+  start-refusal : (k : Sort) (r : Rows) → Refused (Refusal rules start k r) (startStep k r)
   unfolding step startStep
   start-refusal Sort.block r = tt
   start-refusal Sort.frame r = Refusal.other (λ x. x) (λ l. refl)
@@ -124,7 +125,7 @@ module _ (limit : ℕ) where
   start-refusal Sort.value r = Refusal.other (λ x. x) (λ l. refl)
   start-refusal Sort.global r = Refusal.global refl
 
-  named-refusal : (w : Where) (k : Sort) (r : Rows) → Refused (Refusal limit (named w) k r) (namedStep w k r)
+  named-refusal : (w : Where) (k : Sort) (r : Rows) → Refused (Refusal rules (named w) k r) (namedStep w k r)
   unfolding step namedStep
   named-refusal w Sort.block r = Refusal.other (λ x. x) (λ l. refl)
   named-refusal w Sort.frame r = Refusal.other (λ x. x) (λ l. refl)
@@ -135,7 +136,7 @@ module _ (limit : ℕ) where
   named-refusal w Sort.value r = tt
   named-refusal w Sort.global r = Refusal.global refl
 
-  step-refusal : (st : State) (k : Sort) (r : Rows) → Refused (Refusal limit st k r) (step limit st k r)
+  step-refusal : (st : State) (k : Sort) (r : Rows) → Refused (Refusal rules st k r) (step rules st k r)
   unfolding step
   step-refusal start k r = start-refusal k r
   step-refusal (within w) k r = between-refusal (within w) (λ x. x) w k r (λ l. refl)
@@ -143,29 +144,29 @@ module _ (limit : ℕ) where
   step-refusal (header w first before n s) k r = header-refusal w first before n s k r
   step-refusal (body w outer l inner f) k r = body-refusal w outer l inner f k r
 
-  pub refusal : (st : State) (k : Sort) (r : Rows) (n : ℕ) → step limit st k r ≡ refuse n → Refusal limit st k r n
+  pub refusal : (st : State) (k : Sort) (r : Rows) (n : ℕ) → step rules st k r ≡ refuse n → Refusal rules st k r n
   refusal st k r n e = rw e at (step-refusal st k r)
 
 -- every state refuses `global_`
-pub global-refused : (limit : ℕ) (st : State) (r : Rows) → step limit st Sort.global r ≡ refuse 12
+pub global-refused : (rules : Rules) (st : State) (r : Rows) → step rules st Sort.global r ≡ refuse 12
 unfolding step startStep between namedStep headerStep bodyStep
-global-refused limit start r = refl
-global-refused limit (within (inBlock s)) r = refl
-global-refused limit (within (inFrame b s)) r = refl
-global-refused limit (named w) r = refl
-global-refused limit (header w first before n s) r = refl
-global-refused limit (body w outer l inner f) r = refl
+global-refused rules start r = refl
+global-refused rules (within (inBlock s)) r = refl
+global-refused rules (within (inFrame b s)) r = refl
+global-refused rules (named w) r = refl
+global-refused rules (header w first before n s) r = refl
+global-refused rules (body w outer l inner f) r = refl
 
 -- in a packet no name may come
-pub packet-name : (limit : ℕ) (st : State) (r : Rows) → InPacket st → step limit st Sort.name r ≡ refuse 10
+pub packet-name : (rules : Rules) (st : State) (r : Rows) → InPacket st → step rules st Sort.name r ≡ refuse 10
 unfolding step bodyStep noValueAt noValue
-packet-name limit start r h = absurd h
-packet-name limit (within w) r h = absurd h
-packet-name limit (named w) r h = absurd h
-packet-name limit (header w first before n s) r h = absurd h
-packet-name limit (body w outer l inner (suc f)) r h = refl
-packet-name limit (body w [] l inner zero) r h = absurd h
-packet-name limit (body w (o ∷ outer) l inner zero) r h = refl
+packet-name rules start r h = absurd h
+packet-name rules (within w) r h = absurd h
+packet-name rules (named w) r h = absurd h
+packet-name rules (header w first before n s) r h = absurd h
+packet-name rules (body w outer l inner (suc f)) r h = refl
+packet-name rules (body w [] l inner zero) r h = absurd h
+packet-name rules (body w (o ∷ outer) l inner zero) r h = refl
 
 -- why the end is out of place
 pub data EndRefusal (st : State) : ℕ → Type 0 where

@@ -7,6 +7,7 @@ use native.Mathlib.Omega.{arith}
 use lib.Dec.{eqb, ltb}
 use lib.ListN.{length, length-reverseAux}
 use borrow.Author.Tests.{ltb-true}
+use Rattle.star_lex.specs.Rules.{Rules}
 use Rattle.star_grammar.specs.Tables.{Rows, pass}
 use Rattle.star_grammar.specs.Machine.{Sort, Where, inBlock, inFrame, Level, State, start, within, named, header, body, Step, go, refuse, between, filled, fill, valueAt, begin, headerStep, noValue, noValueAt, bodyStep, startStep, namedStep, step}
 use Rattle.star_grammar.specs.Rest.{SaneHeader, SaneBody, Sane}
@@ -41,9 +42,9 @@ pub reverse-counts : (before ls : List ℕ) → Counts before → Counts ls → 
 reverse-counts [] ls cb cl = cl
 reverse-counts (m ∷ before) ls cb cl = reverse-counts before (m ∷ ls) (cb .1) (cb .0, cl)
 
-module _ (limit : ℕ) (least : 1 ≤ limit) where
-  filled-sane : (w : Where) (outer : List Level) (l : Level) (inner : List ℕ) (f : ℕ) → SaneBody limit outer (l .names) inner f
-      → Sane limit (filled w outer l inner)
+module _ (rules : Rules) (least : 1 ≤ rules .levels) where
+  filled-sane : (w : Where) (outer : List Level) (l : Level) (inner : List ℕ) (f : ℕ) → SaneBody rules outer (l .names) inner f
+      → Sane rules (filled w outer l inner)
   unfolding filled
   filled-sane w outer l [] f h =
       record { some-outer = h .some-outer; some-inner = tt; room = omega (arith, h .room); levels = h .levels }
@@ -54,69 +55,72 @@ module _ (limit : ℕ) (least : 1 ≤ limit) where
     levels = omega (arith, h .levels);
   }
 
-  fill-sane : (w : Where) (outer : List Level) (l : Level) (inner : List ℕ) (f : ℕ) (r : Rows) → SaneBody limit outer (l .names) inner f
-      → Taken (Sane limit) (fill w outer l inner f r)
+  fill-sane : (w : Where) (outer : List Level) (l : Level) (inner : List ℕ) (f : ℕ) (r : Rows) → SaneBody rules outer (l .names) inner f
+      → Taken (Sane rules) (fill w outer l inner f r)
   unfolding fill
   fill-sane w outer l inner f r h =
-      cond-case (Sane limit) (ltb (suc f) (l .names)) (body w outer l inner (suc f)) (filled w outer l inner)
+      cond-case (Sane rules) (ltb (suc f) (l .names)) (body w outer l inner (suc f)) (filled w outer l inner)
       (λ e. record { some-outer = h .some-outer; some-inner = h .some-inner; room = ltb-true (suc f) (l .names) e; levels = h .levels })
       (λ e. filled-sane w outer l inner f h)
 
-  value-sane : (w : Where) (outer : List Level) (l : Level) (inner : List ℕ) (f : ℕ) (r : Rows) → SaneBody limit outer (l .names) inner f
-      → Taken (Sane limit) (valueAt w outer l inner f r)
+  value-sane : (w : Where) (outer : List Level) (l : Level) (inner : List ℕ) (f : ℕ) (r : Rows) → SaneBody rules outer (l .names) inner f
+      → Taken (Sane rules) (valueAt w outer l inner f r)
   unfolding valueAt
   value-sane w outer l inner zero r h = fill-sane w outer _ inner 0 _ h
   value-sane w outer l inner (suc f) r h = fill-sane w outer l inner (suc f) r h
 
-  begin-sane : (w : Where) (first : ℕ) (ls : List ℕ) (r : Rows) → Counts ls → length ls ≤ limit → Taken (Sane limit) (begin w first ls r)
+  begin-sane : (w : Where) (first : ℕ) (ls : List ℕ) (r : Rows) → Counts ls → length ls ≤ rules .levels → Taken (Sane rules) (begin w first ls r)
   unfolding begin
   begin-sane w first [] r c l = tt
   begin-sane w first (m ∷ inner) r c l =
       value-sane w [] _ inner 0 r (record { some-outer = tt; some-inner = c .1; room = c .0; levels = omega (arith, l) })
 
-  header-sane : (w : Where) (first : ℕ) (before : List ℕ) (n s : ℕ) (k : Sort) (r : Rows) → SaneHeader limit before n s
-      → Taken (Sane limit) (headerStep limit w first before n s k r)
+  header-sane : (w : Where) (first : ℕ) (before : List ℕ) (n s : ℕ) (k : Sort) (r : Rows) → SaneHeader rules before n s
+      → Taken (Sane rules) (headerStep rules w first before n s k r)
   unfolding headerStep
   header-sane w first before n s Sort.block r h = tt
   header-sane w first before n s Sort.frame r h = tt
   header-sane w first before n s Sort.frameEnd r h = tt
   header-sane w first before n s Sort.loop r h =
-      taken-cond (Sane limit) (ltb 0 n && eqb s 0) _ _
-      (λ e. taken-cond (Sane limit) _ (go (header w first (n ∷ before) 0 0) (pass r)) _
+      taken-cond (Sane rules) (ltb 0 n && eqb s 0) _ _
+      (λ e. taken-cond (Sane rules) _ (go (header w first (n ∷ before) 0 0) (pass r)) _
       (λ e′. record {
         some-names = (ltb-true 0 n (both-left (ltb 0 n) (eqb s 0) e), h .some-names);
-        levels = ltb-true _ limit e′;
+        levels = ltb-true _ (rules .levels) e′;
         stops-fit = omega arith;
+        stops-allowed = λ x. absurd (omega (arith, x));
         stopped = omega arith;
       })
       (λ e′. tt))
       (λ e. tt)
   header-sane w first before n s Sort.stop r h =
-      taken-cond (Sane limit) (ltb 0 n && ltb s (length before)) _ _
-      (λ e. record {
+      taken-cond (Sane rules) (rules .headerStops && (ltb 0 n && ltb s (length before))) _ _
+      (λ e. let d : ltb 0 n && ltb s (length before) ≡ true = both-right (rules .headerStops) _ e in
+      record {
         some-names = h .some-names;
         levels = h .levels;
-        stops-fit = ltb-true s (length before) (both-right (ltb 0 n) (ltb s (length before)) e);
-        stopped = λ x. ltb-true 0 n (both-left (ltb 0 n) (ltb s (length before)) e);
+        stops-fit = ltb-true s (length before) (both-right (ltb 0 n) (ltb s (length before)) d);
+        stops-allowed = λ x. both-left (rules .headerStops) _ e;
+        stopped = λ x. ltb-true 0 n (both-left (ltb 0 n) (ltb s (length before)) d);
       })
       (λ e. tt)
   header-sane w first before n s Sort.name r h =
-      taken-cond (Sane limit) (eqb s 0) _ _
-      (λ e. record { some-names = h .some-names; levels = h .levels; stops-fit = omega arith; stopped = omega arith })
+      taken-cond (Sane rules) (eqb s 0) _ _
+      (λ e. record { some-names = h .some-names; levels = h .levels; stops-fit = omega arith; stops-allowed = λ x. absurd (omega (arith, x)); stopped = omega arith })
       (λ e. tt)
   header-sane w first before n s Sort.value r h =
-      taken-cond (Sane limit) (ltb 0 n) _ _
+      taken-cond (Sane rules) (ltb 0 n) _ _
       (λ e. begin-sane w first (reverseAux before (n ∷ [])) r (reverse-counts before (n ∷ []) (h .some-names) (ltb-true 0 n e, tt))
       (rw length-reverseAux (omega (arith, h .levels))))
       (λ e. tt)
   header-sane w first before n s Sort.global r h = tt
 
-  between-sane : (w : Where) (k : Sort) (r : Rows) → Taken (Sane limit) (between w k r)
+  between-sane : (w : Where) (k : Sort) (r : Rows) → Taken (Sane rules) (between w k r)
   unfolding between
   between-sane (inBlock s) Sort.block r = tt
   between-sane (inBlock s) Sort.frame r = tt
   between-sane (inBlock s) Sort.frameEnd r = tt
-  between-sane (inBlock s) Sort.loop r = record { some-names = tt; levels = least; stops-fit = omega arith; stopped = omega arith }
+  between-sane (inBlock s) Sort.loop r = record { some-names = tt; levels = least; stops-fit = omega arith; stops-allowed = λ x. absurd (omega (arith, x)); stopped = omega arith }
   between-sane (inBlock s) Sort.stop r = tt
   between-sane (inBlock s) Sort.name r = tt
   between-sane (inBlock s) Sort.value r = tt
@@ -124,14 +128,14 @@ module _ (limit : ℕ) (least : 1 ≤ limit) where
   between-sane (inFrame b s) Sort.block r = tt
   between-sane (inFrame b s) Sort.frame r = tt
   between-sane (inFrame b s) Sort.frameEnd r = tt
-  between-sane (inFrame b s) Sort.loop r = record { some-names = tt; levels = least; stops-fit = omega arith; stopped = omega arith }
+  between-sane (inFrame b s) Sort.loop r = record { some-names = tt; levels = least; stops-fit = omega arith; stops-allowed = λ x. absurd (omega (arith, x)); stopped = omega arith }
   between-sane (inFrame b s) Sort.stop r = tt
   between-sane (inFrame b s) Sort.name r = tt
   between-sane (inFrame b s) Sort.value r = tt
   between-sane (inFrame b s) Sort.global r = tt
 
   no-value-sane : (w : Where) (outer : List Level) (l : Level) (inner : List ℕ) (f : ℕ) (k : Sort) (r : Rows)
-      → SaneBody limit outer (l .names) inner f → Taken (Sane limit) (noValueAt w outer l inner f k r)
+      → SaneBody rules outer (l .names) inner f → Taken (Sane rules) (noValueAt w outer l inner f k r)
   unfolding noValueAt noValue
   no-value-sane w outer l inner (suc f) k r h = tt
   no-value-sane w [] l inner zero k r h = between-sane w k r
@@ -150,7 +154,7 @@ module _ (limit : ℕ) (least : 1 ≤ limit) where
   no-value-sane w (o ∷ outer) l inner zero Sort.global r h = tt
 
   body-sane : (w : Where) (outer : List Level) (l : Level) (inner : List ℕ) (f : ℕ) (k : Sort) (r : Rows)
-      → SaneBody limit outer (l .names) inner f → Taken (Sane limit) (bodyStep w outer l inner f k r)
+      → SaneBody rules outer (l .names) inner f → Taken (Sane rules) (bodyStep w outer l inner f k r)
   unfolding bodyStep
   body-sane w outer l inner f Sort.block r h = no-value-sane w outer l inner f Sort.block r h
   body-sane w outer l inner f Sort.frame r h = no-value-sane w outer l inner f Sort.frame r h
@@ -161,7 +165,7 @@ module _ (limit : ℕ) (least : 1 ≤ limit) where
   body-sane w outer l inner f Sort.value r h = value-sane w outer l inner f r h
   body-sane w outer l inner f Sort.global r h = tt
 
-  start-sane : (k : Sort) (r : Rows) → Taken (Sane limit) (startStep k r)
+  start-sane : (k : Sort) (r : Rows) → Taken (Sane rules) (startStep k r)
   unfolding startStep
   start-sane Sort.block r = tt
   start-sane Sort.frame r = tt
@@ -172,7 +176,7 @@ module _ (limit : ℕ) (least : 1 ≤ limit) where
   start-sane Sort.value r = tt
   start-sane Sort.global r = tt
 
-  named-sane : (w : Where) (k : Sort) (r : Rows) → Taken (Sane limit) (namedStep w k r)
+  named-sane : (w : Where) (k : Sort) (r : Rows) → Taken (Sane rules) (namedStep w k r)
   unfolding namedStep
   named-sane w Sort.block r = tt
   named-sane w Sort.frame r = tt
@@ -183,7 +187,7 @@ module _ (limit : ℕ) (least : 1 ≤ limit) where
   named-sane w Sort.value r = tt
   named-sane w Sort.global r = tt
 
-  step-sane : (st : State) (k : Sort) (r : Rows) → Sane limit st → Taken (Sane limit) (step limit st k r)
+  step-sane : (st : State) (k : Sort) (r : Rows) → Sane rules st → Taken (Sane rules) (step rules st k r)
   unfolding step
   step-sane start k r h = start-sane k r
   step-sane (within w) k r h = between-sane w k r
@@ -192,5 +196,5 @@ module _ (limit : ℕ) (least : 1 ≤ limit) where
   step-sane (body w outer l inner f) k r h = body-sane w outer l inner f k r h
 
   -- a step that is taken leads to a sane state
-  pub sane-kept : (st s : State) (k : Sort) (r r′ : Rows) → Sane limit st → step limit st k r ≡ go s r′ → Sane limit s
+  pub sane-kept : (st s : State) (k : Sort) (r r′ : Rows) → Sane rules st → step rules st k r ≡ go s r′ → Sane rules s
   sane-kept st s k r r′ h e = rw e at (step-sane st k r h)

@@ -6,6 +6,7 @@ use Prim.Native.Nat.{ℕ, _≤_}
 use native.Mathlib.Omega.{arith}
 use lib.Dec.{eqb}
 use borrow.Author.Tests.{ne-eqb, eqb-true, eqb-false}
+use Rattle.star_lex.specs.Rules.{Rules}
 use Rattle.star_lex.specs.Tokens.{Token}
 use Rattle.star_grammar.specs.Tree.{IsValue, IsName, frameEnd, loopStart, stop}
 use Rattle.star_grammar.specs.Tables.{Rows}
@@ -81,29 +82,29 @@ sort-kind n h l =
     sort-cond (KindOf n) (eqb n 12) _ _ (eqb-true n 12) λ e₇. (h₆, omega (arith, eqb-false n 12 e₇))
 
 -- what a step leads to
-abbrev pub onward : (limit : ℕ) → List Token → Rows → Step → Run
-onward limit ts r (go s r′) = run limit s ts r′
-onward limit ts r (refuse n) = bad n (r .tokens)
+abbrev pub onward : (rules : Rules) → List Token → Rows → Step → Run
+onward rules ts r (go s r′) = run rules s ts r′
+onward rules ts r (refuse n) = bad n (r .tokens)
 
-pub run-onward : (limit : ℕ) (st : State) (t : Token) (ts : List Token) (r : Rows)
-    → run limit st (t ∷ ts) r ≡ onward limit ts r (step limit st (sortOf (t .kind)) r)
+pub run-onward : (rules : Rules) (st : State) (t : Token) (ts : List Token) (r : Rows)
+    → run rules st (t ∷ ts) r ≡ onward rules ts r (step rules st (sortOf (t .kind)) r)
 unfolding run
-run-onward limit st t ts r = at (step limit st (sortOf (t .kind)) r) refl
+run-onward rules st t ts r = at (step rules st (sortOf (t .kind)) r) refl
   where
-    at : (x : Step) → step limit st (sortOf (t .kind)) r ≡ x → run limit st (t ∷ ts) r ≡ onward limit ts r x
+    at : (x : Step) → step rules st (sortOf (t .kind)) r ≡ x → run rules st (t ∷ ts) r ≡ onward rules ts r x
     at (go s r′) e = rw (e, run)
     at (refuse n) e = rw (e, run)
 
 -- a run goes on where the step of its first token's sort goes
-pub run-sort : (limit : ℕ) (st : State) (t : Token) (ts : List Token) (r : Rows) (k : Sort)
-    → sortOf (t .kind) ≡ k → run limit st (t ∷ ts) r ≡ onward limit ts r (step limit st k r)
-run-sort limit st t ts r k e = run-onward limit st t ts r ∙ ap (λ (s : Sort). onward limit ts r (step limit st s r)) e
+pub run-sort : (rules : Rules) (st : State) (t : Token) (ts : List Token) (r : Rows) (k : Sort)
+    → sortOf (t .kind) ≡ k → run rules st (t ∷ ts) r ≡ onward rules ts r (step rules st k r)
+run-sort rules st t ts r k e = run-onward rules st t ts r ∙ ap (λ (s : Sort). onward rules ts r (step rules st s r)) e
 
-pub run-go : (limit : ℕ) (st : State) (t : Token) (ts : List Token) (r : Rows) (k : Sort) (s : State) (r′ : Rows)
-    → sortOf (t .kind) ≡ k → step limit st k r ≡ go s r′ → run limit st (t ∷ ts) r ≡ run limit s ts r′
-run-go limit st t ts r k s r′ e h = run-sort limit st t ts r k e ∙ ap (onward limit ts r) h
+pub run-go : (rules : Rules) (st : State) (t : Token) (ts : List Token) (r : Rows) (k : Sort) (s : State) (r′ : Rows)
+    → sortOf (t .kind) ≡ k → step rules st k r ≡ go s r′ → run rules st (t ∷ ts) r ≡ run rules s ts r′
+run-go rules st t ts r k s r′ e h = run-sort rules st t ts r k e ∙ ap (onward rules ts r) h
 
 -- two states with the same step run alike
-pub run-alike : (limit : ℕ) (st st′ : State) (t : Token) (ts : List Token) (r : Rows)
-    → step limit st (sortOf (t .kind)) r ≡ step limit st′ (sortOf (t .kind)) r → run limit st (t ∷ ts) r ≡ run limit st′ (t ∷ ts) r
-run-alike limit st st′ t ts r e = run-onward limit st t ts r ∙ ap (onward limit ts r) e ∙ sym (run-onward limit st′ t ts r)
+pub run-alike : (rules : Rules) (st st′ : State) (t : Token) (ts : List Token) (r : Rows)
+    → step rules st (sortOf (t .kind)) r ≡ step rules st′ (sortOf (t .kind)) r → run rules st (t ∷ ts) r ≡ run rules st′ (t ∷ ts) r
+run-alike rules st st′ t ts r e = run-onward rules st t ts r ∙ ap (onward rules ts r) e ∙ sym (run-onward rules st′ t ts r)

@@ -5,8 +5,9 @@ use mathlib.Core.List.{List, [], _∷_, _++_, map, flatMap, append-assoc, append
 use Prim.Native.Nat.{ℕ, zero, suc, _≤_}
 use native.Mathlib.Omega.{arith}
 use lib.ListN.{length, replicate}
+use Rattle.star_lex.specs.Rules.{Rules}
 use Rattle.star_lex.specs.Tokens.{Token, Each}
-use Rattle.star_grammar.specs.Tree.{IsValue, IsName, Inner, Packet, innerYield, packetYield, InnerWhole, PacketWhole, Loop, loopYield, LoopWhole, Entry, item, looped, entryYield, EntryWhole, Frame, frameYield, FrameWhole, Member, own, framed, memberYield, MemberWhole, Block, blockYield, BlockWhole, File, fileYield, FileWhole, frameEnd, loopStart, stop}
+use Rattle.star_grammar.specs.Tree.{IsValue, IsName, Inner, Packet, innerYield, packetYield, InnerWhole, PacketWhole, Loop, loopYield, LoopBy, Entry, item, looped, entryYield, EntryBy, Frame, frameYield, FrameBy, Member, own, framed, memberYield, MemberBy, Block, blockYield, BlockBy, File, fileYield, FileBy, frameEnd, loopStart, stop}
 use Rattle.star_grammar.proofs.Counts.{Counts, map-counts}
 
 -- a row that begins with such a token, and one that does not
@@ -206,7 +207,7 @@ loop-splits : (l : Loop) (s : List Token) → loopYield l ++ s ≡ loopStart ∷
 unfolding loopYield afterNames packetsOf
 loop-splits l s = simp append-assoc
 
-module _ (limit : ℕ) (l : Loop) (s : List Token) (w : LoopWhole limit l) where
+module _ (rules : Rules) (l : Loop) (s : List Token) (w : LoopBy rules l) where
   packets-value : Begins IsValue (packetsOf l s)
   unfolding packetsOf
   packets-value =
@@ -245,22 +246,22 @@ same-packets names k d d′ ps ps′ s t some counts e w w′ hs ht q = subst P 
         packets-same (length names) some (map length d) (map-counts d counts) (inner-same (map length d)) ps qs s t w wq hs ht e′ in
         (λ i. record { names = names; deeper = d; stops = k; packets = all .0 i }, all .1)
 
-loop-same : (limit : ℕ) (l m : Loop) (s t : List Token) → LoopWhole limit l → LoopWhole limit m → NotHead IsValue s → NotHead IsValue t
+loop-same : (rules : Rules) (l m : Loop) (s t : List Token) → LoopBy rules l → LoopBy rules m → NotHead IsValue s → NotHead IsValue t
     → loopYield l ++ s ≡ loopYield m ++ t → (l ≡ m) × (s ≡ t)
 unfolding afterNames packetsOf
-loop-same limit l m s t wl wm hs ht e =
+loop-same rules l m s t wl wm hs ht e =
     let start : loopStart ∷ (l .names ++ afterNames l s) ≡ loopStart ∷ (m .names ++ afterNames m t) = sym (loop-splits l s) ∙ e ∙ loop-splits m t in
     let names : (l .names ≡ m .names) × (afterNames l s ≡ afterNames m t) =
     same-span IsName (l .names) (m .names) (afterNames l s) (afterNames m t) (wl .are-names) (wm .are-names)
-    (after-no-name limit l s wl) (after-no-name limit m t wm) (cc) in
+    (after-no-name rules l s wl) (after-no-name rules m t wm) (cc) in
     let deeper : (l .deeper ≡ m .deeper) × (replicate (l .stops) stop ++ packetsOf l s ≡ replicate (m .stops) stop ++ packetsOf m t) =
     levels-same (l .deeper) (m .deeper) _ _ (wl .are-deeper) (wm .are-deeper)
-    (stops-no-head limit l s wl IsName value-no-name stop-no-name) (stops-no-head limit m t wm IsName value-no-name stop-no-name)
-    (stops-no-head limit l s wl IsLoop value-no-loop stop-no-loop) (stops-no-head limit m t wm IsLoop value-no-loop stop-no-loop)
+    (stops-no-head rules l s wl IsName value-no-name stop-no-name) (stops-no-head rules m t wm IsName value-no-name stop-no-name)
+    (stops-no-head rules l s wl IsLoop value-no-loop stop-no-loop) (stops-no-head rules m t wm IsLoop value-no-loop stop-no-loop)
     (names .1) in
     let stops : (l .stops ≡ m .stops) × (packetsOf l s ≡ packetsOf m t) =
-    stops-same (l .stops) (m .stops) (packetsOf l s) (packetsOf m t) (begins-not IsValue IsStop (packetsOf l s) value-no-stop (packets-value limit l s wl))
-    (begins-not IsValue IsStop (packetsOf m t) value-no-stop (packets-value limit m t wm)) (deeper .1) in
+    stops-same (l .stops) (m .stops) (packetsOf l s) (packetsOf m t) (begins-not IsValue IsStop (packetsOf l s) value-no-stop (packets-value rules l s wl))
+    (begins-not IsValue IsStop (packetsOf m t) value-no-stop (packets-value rules m t wm)) (deeper .1) in
     let packets : (_≡_ {A = Loop} (record { names = l .names; deeper = l .deeper; stops = l .stops; packets = l .packets })
     (record { names = l .names; deeper = m .deeper; stops = l .stops; packets = m .packets }))
     × (s ≡ t) =
@@ -276,35 +277,35 @@ record Kinds (low high : ℕ) (t : Token) : Type 0 where
 no-value : (low high : ℕ) (t : Token) → high ≤ 6 → Kinds low high t → IsValue t → ⊥
 no-value low high t h k v = omega (arith, k .most, v .low)
 
-entry-begins : (limit : ℕ) (e : Entry) → EntryWhole limit e → Begins (Kinds 4 6) (entryYield e)
-unfolding entryYield EntryWhole loopYield loopStart
-entry-begins limit (item n v) w = record { least = omega (arith, w .0 .kind6); most = omega (arith, w .0 .kind6) }
-entry-begins limit (looped l) w = record { least = omega arith; most = omega arith }
+entry-begins : (rules : Rules) (e : Entry) → EntryBy rules e → Begins (Kinds 4 6) (entryYield e)
+unfolding entryYield loopYield loopStart
+entry-begins rules (item n v) w = record { least = omega (arith, w .0 .kind6); most = omega (arith, w .0 .kind6) }
+entry-begins rules (looped l) w = record { least = omega arith; most = omega arith }
 
-entry-follows : (limit : ℕ) (e : Entry) (s : List Token) → EntryWhole limit e → NotHead IsValue (entryYield e ++ s)
-entry-follows limit e s w =
+entry-follows : (rules : Rules) (e : Entry) (s : List Token) → EntryBy rules e → NotHead IsValue (entryYield e ++ s)
+entry-follows rules e s w =
     begins-not (Kinds 4 6) IsValue (entryYield e ++ s) (λ t. no-value 4 6 t (omega arith))
-    (begins-append (Kinds 4 6) (entryYield e) s (entry-begins limit e w))
+    (begins-append (Kinds 4 6) (entryYield e) s (entry-begins rules e w))
 
 name-no-loop : (n : Token) (xs ys : List Token) → IsName n → n ∷ xs ≡ loopStart ∷ ys → ⊥
 unfolding loopStart
 name-no-loop n xs ys w e = let p : n .kind ≡ 4 = cc in omega (arith, p, w .kind6)
 
-entry-same : (limit : ℕ) (a b : Entry) (s t : List Token) → EntryWhole limit a → EntryWhole limit b → NotHead IsValue s → NotHead IsValue t
+entry-same : (rules : Rules) (a b : Entry) (s t : List Token) → EntryBy rules a → EntryBy rules b → NotHead IsValue s → NotHead IsValue t
     → entryYield a ++ s ≡ entryYield b ++ t → (a ≡ b) × (s ≡ t)
-unfolding entryYield EntryWhole
-entry-same limit (item n v) (item m u) s t wa wb hs ht e = (cc, cc)
-entry-same limit (item n v) (looped l) s t wa wb hs ht e = absurd (name-no-loop n _ _ (wa .0) (e ∙ loop-splits l t))
-entry-same limit (looped l) (item n v) s t wa wb hs ht e = absurd (name-no-loop n _ _ (wb .0) (sym e ∙ loop-splits l s))
-entry-same limit (looped l) (looped m) s t wa wb hs ht e =
-    let all : (l ≡ m) × (s ≡ t) = loop-same limit l m s t wa wb hs ht e in
+unfolding entryYield
+entry-same rules (item n v) (item m u) s t wa wb hs ht e = (cc, cc)
+entry-same rules (item n v) (looped l) s t wa wb hs ht e = absurd (name-no-loop n _ _ (wa .0) (e ∙ loop-splits l t))
+entry-same rules (looped l) (item n v) s t wa wb hs ht e = absurd (name-no-loop n _ _ (wb .0) (sym e ∙ loop-splits l s))
+entry-same rules (looped l) (looped m) s t wa wb hs ht e =
+    let all : (l ≡ m) × (s ≡ t) = loop-same rules l m s t wa wb hs ht e in
     (ap looped (all .0), all .1)
 
-entries-same : (limit : ℕ) (xs ys : List Entry) (s t : List Token) → Each (EntryWhole limit) xs → Each (EntryWhole limit) ys
+entries-same : (rules : Rules) (xs ys : List Entry) (s t : List Token) → Each (EntryBy rules) xs → Each (EntryBy rules) ys
     → NotHead IsValue s → NotHead IsValue t → NotHead (Kinds 4 6) s → NotHead (Kinds 4 6) t
     → flatMap entryYield xs ++ s ≡ flatMap entryYield ys ++ t → (xs ≡ ys) × (s ≡ t)
-entries-same limit =
-    pieces-same entryYield (EntryWhole limit) (Kinds 4 6) (NotHead IsValue) (entry-begins limit) (entry-follows limit) (entry-same limit)
+entries-same rules =
+    pieces-same entryYield (EntryBy rules) (Kinds 4 6) (NotHead IsValue) (entry-begins rules) (entry-follows rules) (entry-same rules)
 
 end-no-value : IsValue frameEnd → ⊥
 unfolding frameEnd
@@ -314,57 +315,57 @@ end-no-entry : Kinds 4 6 frameEnd → ⊥
 unfolding frameEnd
 end-no-entry k = omega (arith, k .least)
 
-frame-same : (limit : ℕ) (f g : Frame) (s t : List Token) → FrameWhole limit f → FrameWhole limit g → frameYield f ++ s ≡ frameYield g ++ t
+frame-same : (rules : Rules) (f g : Frame) (s t : List Token) → FrameBy rules f → FrameBy rules g → frameYield f ++ s ≡ frameYield g ++ t
     → (f ≡ g) × (s ≡ t)
 unfolding frameYield
-frame-same limit f g s t wf wg e =
+frame-same rules f g s t wf wg e =
     let heading : f .heading ≡ g .heading = cc in
     let body : flatMap entryYield (f .entries) ++ (frameEnd ∷ []) ++ s ≡ flatMap entryYield (g .entries) ++ (frameEnd ∷ []) ++ t = cc in
     let all : (f .entries ≡ g .entries) × (frameEnd ∷ s ≡ frameEnd ∷ t) =
-    entries-same limit (f .entries) (g .entries) (frameEnd ∷ s) (frameEnd ∷ t) (wf .entries) (wg .entries) end-no-value end-no-value
+    entries-same rules (f .entries) (g .entries) (frameEnd ∷ s) (frameEnd ∷ t) (wf .entries) (wg .entries) end-no-value end-no-value
     end-no-entry end-no-entry
     (sym (append-assoc (flatMap entryYield (f .entries)) (frameEnd ∷ []) s) ∙ body ∙ append-assoc (flatMap entryYield (g .entries)) (frameEnd ∷ []) t) in
     let tails : frameEnd ∷ s ≡ frameEnd ∷ t = all .1 in
     (λ i. record { heading = heading i; entries = all .0 i }, cc)
 
-member-begins : (limit : ℕ) (m : Member) → MemberWhole limit m → Begins (Kinds 2 6) (memberYield m)
-unfolding memberYield MemberWhole frameYield
-member-begins limit (own e) w = wider (entryYield e) (entry-begins limit e w)
+member-begins : (rules : Rules) (m : Member) → MemberBy rules m → Begins (Kinds 2 6) (memberYield m)
+unfolding memberYield frameYield
+member-begins rules (own e) w = wider (entryYield e) (entry-begins rules e w)
   where
     wider : (xs : List Token) → Begins (Kinds 4 6) xs → Begins (Kinds 2 6) xs
     wider [] b = b
     wider (x ∷ xs) b = record { least = omega (arith, b .least); most = b .most }
-member-begins limit (framed f) w = record { least = omega (arith, w .heading); most = omega (arith, w .heading) }
+member-begins rules (framed f) w = record { least = omega (arith, w .heading); most = omega (arith, w .heading) }
 
-member-follows : (limit : ℕ) (m : Member) (s : List Token) → MemberWhole limit m → NotHead IsValue (memberYield m ++ s)
-member-follows limit m s w =
+member-follows : (rules : Rules) (m : Member) (s : List Token) → MemberBy rules m → NotHead IsValue (memberYield m ++ s)
+member-follows rules m s w =
     begins-not (Kinds 2 6) IsValue (memberYield m ++ s) (λ t. no-value 2 6 t (omega arith))
-    (begins-append (Kinds 2 6) (memberYield m) s (member-begins limit m w))
+    (begins-append (Kinds 2 6) (memberYield m) s (member-begins rules m w))
 
 -- an entry is no frame
-entry-no-frame : (limit : ℕ) (e : Entry) (f : Frame) (s t : List Token) → EntryWhole limit e → FrameWhole limit f
+entry-no-frame : (rules : Rules) (e : Entry) (f : Frame) (s t : List Token) → EntryBy rules e → FrameBy rules f
     → entryYield e ++ s ≡ frameYield f ++ t → ⊥
 unfolding frameYield
-entry-no-frame limit e f s t we wf q =
-    never (Kinds 4 6) (entryYield e) s (frameYield f ++ t) (entry-begins limit e we) q (λ k. omega (arith, k .least, wf .heading))
+entry-no-frame rules e f s t we wf q =
+    never (Kinds 4 6) (entryYield e) s (frameYield f ++ t) (entry-begins rules e we) q (λ k. omega (arith, k .least, wf .heading))
 
-member-same : (limit : ℕ) (a b : Member) (s t : List Token) → MemberWhole limit a → MemberWhole limit b → NotHead IsValue s → NotHead IsValue t
+member-same : (rules : Rules) (a b : Member) (s t : List Token) → MemberBy rules a → MemberBy rules b → NotHead IsValue s → NotHead IsValue t
     → memberYield a ++ s ≡ memberYield b ++ t → (a ≡ b) × (s ≡ t)
-unfolding memberYield MemberWhole
-member-same limit (own a) (own b) s t wa wb hs ht e =
-    let all : (a ≡ b) × (s ≡ t) = entry-same limit a b s t wa wb hs ht e in
+unfolding memberYield
+member-same rules (own a) (own b) s t wa wb hs ht e =
+    let all : (a ≡ b) × (s ≡ t) = entry-same rules a b s t wa wb hs ht e in
     (ap own (all .0), all .1)
-member-same limit (own a) (framed f) s t wa wb hs ht e = absurd (entry-no-frame limit a f s t wa wb e)
-member-same limit (framed f) (own a) s t wa wb hs ht e = absurd (entry-no-frame limit a f t s wb wa (sym e))
-member-same limit (framed f) (framed g) s t wa wb hs ht e =
-    let all : (f ≡ g) × (s ≡ t) = frame-same limit f g s t wa wb e in
+member-same rules (own a) (framed f) s t wa wb hs ht e = absurd (entry-no-frame rules a f s t wa wb e)
+member-same rules (framed f) (own a) s t wa wb hs ht e = absurd (entry-no-frame rules a f t s wb wa (sym e))
+member-same rules (framed f) (framed g) s t wa wb hs ht e =
+    let all : (f ≡ g) × (s ≡ t) = frame-same rules f g s t wa wb e in
     (ap framed (all .0), all .1)
 
-members-same : (limit : ℕ) (xs ys : List Member) (s t : List Token) → Each (MemberWhole limit) xs → Each (MemberWhole limit) ys
+members-same : (rules : Rules) (xs ys : List Member) (s t : List Token) → Each (MemberBy rules) xs → Each (MemberBy rules) ys
     → NotHead IsValue s → NotHead IsValue t → NotHead (Kinds 2 6) s → NotHead (Kinds 2 6) t
     → flatMap memberYield xs ++ s ≡ flatMap memberYield ys ++ t → (xs ≡ ys) × (s ≡ t)
-members-same limit =
-    pieces-same memberYield (MemberWhole limit) (Kinds 2 6) (NotHead IsValue) (member-begins limit) (member-follows limit) (member-same limit)
+members-same rules =
+    pieces-same memberYield (MemberBy rules) (Kinds 2 6) (NotHead IsValue) (member-begins rules) (member-follows rules) (member-same rules)
 
 -- what may follow a block: another, or nothing
 abbrev BlockNext : List Token → Type 0
@@ -378,27 +379,27 @@ next-not H f (t ∷ s) b = f t b
 block-no-member : (t : Token) → Kinds 1 1 t → Kinds 2 6 t → ⊥
 block-no-member t k m = omega (arith, k .most, m .least)
 
-block-begins : (limit : ℕ) (b : Block) → BlockWhole limit b → Begins (Kinds 1 1) (blockYield b)
+block-begins : (rules : Rules) (b : Block) → BlockBy rules b → Begins (Kinds 1 1) (blockYield b)
 unfolding blockYield
-block-begins limit b w = record { least = omega (arith, w .heading); most = omega (arith, w .heading) }
+block-begins rules b w = record { least = omega (arith, w .heading); most = omega (arith, w .heading) }
 
-block-follows : (limit : ℕ) (b : Block) (s : List Token) → BlockWhole limit b → BlockNext (blockYield b ++ s)
+block-follows : (rules : Rules) (b : Block) (s : List Token) → BlockBy rules b → BlockNext (blockYield b ++ s)
 unfolding blockYield
-block-follows limit b s w = block-begins limit b w
+block-follows rules b s w = block-begins rules b w
 
-block-same : (limit : ℕ) (a b : Block) (s t : List Token) → BlockWhole limit a → BlockWhole limit b → BlockNext s → BlockNext t
+block-same : (rules : Rules) (a b : Block) (s t : List Token) → BlockBy rules a → BlockBy rules b → BlockNext s → BlockNext t
     → blockYield a ++ s ≡ blockYield b ++ t → (a ≡ b) × (s ≡ t)
 unfolding blockYield
-block-same limit a b s t wa wb fs ft e =
+block-same rules a b s t wa wb fs ft e =
     let heading : a .heading ≡ b .heading = cc in
     let all : (a .members ≡ b .members) × (s ≡ t) =
-    members-same limit (a .members) (b .members) s t (wa .members) (wb .members)
+    members-same rules (a .members) (b .members) s t (wa .members) (wb .members)
     (next-not IsValue (λ x. no-value 1 1 x (omega arith)) s fs) (next-not IsValue (λ x. no-value 1 1 x (omega arith)) t ft)
     (next-not (Kinds 2 6) block-no-member s fs) (next-not (Kinds 2 6) block-no-member t ft) (cc) in
     (λ i. record { heading = heading i; members = all .0 i }, all .1)
 
 -- whole trees with the same tokens are equal
-pub unambiguous : (limit : ℕ) (f g : File) → FileWhole limit f → FileWhole limit g → fileYield f ≡ fileYield g → f ≡ g
-unambiguous limit f g wf wg e =
-    pieces-same blockYield (BlockWhole limit) (Kinds 1 1) BlockNext (block-begins limit) (block-follows limit) (block-same limit)
+pub unambiguous : (rules : Rules) (f g : File) → FileBy rules f → FileBy rules g → fileYield f ≡ fileYield g → f ≡ g
+unambiguous rules f g wf wg e =
+    pieces-same blockYield (BlockBy rules) (Kinds 1 1) BlockNext (block-begins rules) (block-follows rules) (block-same rules)
     f g [] [] wf wg tt tt tt tt (append-nil (fileYield f) ∙ e ∙ sym (append-nil (fileYield g))) .0

@@ -4,6 +4,7 @@ use mathlib.Core.List.{List, [], _∷_, reverseAux}
 use Prim.Native.Nat.{ℕ, zero, suc, _+_}
 use lib.Dec.{eqb, ltb}
 use lib.ListN.{length}
+use Rattle.star_lex.specs.Rules.{Rules}
 use Rattle.star_lex.specs.Tokens.{Token}
 use Rattle.star_grammar.specs.Tables.{Rows, pass, openLoop, putSet, putName, putPacket, putValue, next}
 
@@ -92,20 +93,20 @@ unfoldable pub begin : Where → (first : ℕ) → List ℕ → Rows → Step
 begin w first [] r = refuse 8
 begin w first (m ∷ inner) r = valueAt w [] (record { names = m; first = first; packet = 0 }) inner 0 r
 
-unfoldable pub headerStep : (limit : ℕ) → Where → (first : ℕ) → List ℕ → (names stops : ℕ) → Sort → Rows → Step
-headerStep limit w first before n s block r = refuse 8
-headerStep limit w first before n s frame r = refuse 8
-headerStep limit w first before n s frameEnd r = refuse 8
-headerStep limit w first before n s loop r =
+unfoldable pub headerStep : (rules : Rules) → Where → (first : ℕ) → List ℕ → (names stops : ℕ) → Sort → Rows → Step
+headerStep rules w first before n s block r = refuse 8
+headerStep rules w first before n s frame r = refuse 8
+headerStep rules w first before n s frameEnd r = refuse 8
+headerStep rules w first before n s loop r =
     cond (ltb 0 n && eqb s 0)
-    (cond (ltb (suc (length before)) limit) (go (header w first (n ∷ before) 0 0) (pass r)) (refuse 11))
+    (cond (ltb (suc (length before)) (rules .levels)) (go (header w first (n ∷ before) 0 0) (pass r)) (refuse 11))
     (refuse 8)
-headerStep limit w first before n s stop r =
-    cond (ltb 0 n && ltb s (length before)) (go (header w first before n (suc s)) (pass r)) (refuse 8)
-headerStep limit w first before n s name r =
+headerStep rules w first before n s stop r =
+    cond (rules .headerStops && (ltb 0 n && ltb s (length before))) (go (header w first before n (suc s)) (pass r)) (refuse 8)
+headerStep rules w first before n s name r =
     cond (eqb s 0) (go (header w first before (suc n) 0) (putName (setOf w) (r .loops) (suc (length before)) r)) (refuse 8)
-headerStep limit w first before n s value r = cond (ltb 0 n) (begin w first (reverseAux before (n ∷ [])) r) (refuse 8)
-headerStep limit w first before n s global r = refuse 12
+headerStep rules w first before n s value r = cond (ltb 0 n) (begin w first (reverseAux before (n ∷ [])) r) (refuse 8)
+headerStep rules w first before n s global r = refuse 12
 
 -- no packet is begun and no value comes: an open inner level takes `stop_` alone
 unfoldable pub noValue : Where → List Level → Level → List ℕ → Sort → Rows → Step
@@ -154,13 +155,13 @@ namedStep w name r = refuse 8
 namedStep w value r = go (within w) (putValue (length (r .names)) 0 r)
 namedStep w global r = refuse 12
 
--- a step, at most so many levels
-unfoldable pub step : (limit : ℕ) → State → Sort → Rows → Step
-step limit start k r = startStep k r
-step limit (within w) k r = between w k r
-step limit (named w) k r = namedStep w k r
-step limit (header w first before n s) k r = headerStep limit w first before n s k r
-step limit (body w outer l inner f) k r = bodyStep w outer l inner f k r
+-- a step, by the rules
+unfoldable pub step : (rules : Rules) → State → Sort → Rows → Step
+step rules start k r = startStep k r
+step rules (within w) k r = between w k r
+step rules (named w) k r = namedStep w k r
+step rules (header w first before n s) k r = headerStep rules w first before n s k r
+step rules (body w outer l inner f) k r = bodyStep w outer l inner f k r
 
 -- what a run gives: refusal and how many tokens stand before the bad one, or the rows
 pub data Run : Type 0 where
@@ -184,11 +185,11 @@ endRun (named w) r = bad 8 (r .tokens)
 endRun (header w first before n s) r = bad 8 (r .tokens)
 endRun (body w outer l inner f) r = endBody w outer f r
 
-unfoldable pub run : (limit : ℕ) → State → List Token → Rows → Run
-run limit st [] r = endRun st r
-run limit st (t ∷ ts) r = elim (step limit st (sortOf (t .kind)) r) [ go s r′ ↦ run limit s ts r′ | refuse n ↦ bad n (r .tokens) ]
+unfoldable pub run : (rules : Rules) → State → List Token → Rows → Run
+run rules st [] r = endRun st r
+run rules st (t ∷ ts) r = elim (step rules st (sortOf (t .kind)) r) [ go s r′ ↦ run rules s ts r′ | refuse n ↦ bad n (r .tokens) ]
 
 -- the state and the rows after tokens
-unfoldable pub walk : (limit : ℕ) → State → List Token → Rows → Step
-walk limit st [] r = go st r
-walk limit st (t ∷ ts) r = elim (step limit st (sortOf (t .kind)) r) [ go s r′ ↦ walk limit s ts r′ | refuse n ↦ refuse n ]
+unfoldable pub walk : (rules : Rules) → State → List Token → Rows → Step
+walk rules st [] r = go st r
+walk rules st (t ∷ ts) r = elim (step rules st (sortOf (t .kind)) r) [ go s r′ ↦ walk rules s ts r′ | refuse n ↦ refuse n ]

@@ -2,8 +2,9 @@
 use mathlib.Core.Path.{_≡_}
 use mathlib.Core.List.{List, [], _∷_, _++_, map, flatMap, List·Memᴰ}
 use Prim.Native.Nat.{ℕ}
+use Rattle.star_lex.specs.Rules.{Rules, today}
 use Rattle.star_lex.specs.Tokens.{Token, Each}
-use Rattle.star_grammar.specs.Tree.{Entry, item, looped, Member, own, framed, Block, File, fileYield, FileWhole}
+use Rattle.star_grammar.specs.Tree.{Entry, item, looped, Member, own, framed, Block, File, fileYield, FileBy}
 
 -- no content stands twice in the list
 abbrev pub Distinct : List (List ℕ) → Type 0
@@ -43,9 +44,13 @@ pub record FileDistinct (f : File) : Type 0 where
   pub blocks : Each BlockDistinct f
   pub codes : Distinct (map (λ b. b .heading .content) f)
 
--- a reading of a row of tokens: a tree by these rules whose tokens are all of them, with at most 8 levels
-pub record Reading (ts : List Token) : Type 0 where
+-- a reading of a row of tokens: a tree by the rules whose tokens are all of them
+pub record ReadingBy (rules : Rules) (ts : List Token) : Type 0 where
   pub tree : File
   pub yield : fileYield tree ≡ ts
-  pub whole : FileWhole 8 tree
+  pub whole : FileBy rules tree
   pub distinct : FileDistinct tree
+
+-- by today's rules
+abbrev pub Reading : List Token → Type 0
+Reading ts = ReadingBy today ts

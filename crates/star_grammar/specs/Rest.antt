@@ -1,11 +1,13 @@
 -- For each state of the machine, the rows of tokens that may still come, made of pieces of trees. Of what a state holds only the counts
 -- matter here, not the numbers of sets and rows. An aid of the proofs, as the machine is.
 use mathlib.Core.Path.{_≡_}
+use mathlib.Core.Bool.{true}
 use mathlib.Core.List.{List, [], _∷_, _++_, map, flatMap, reverseAux}
 use Prim.Native.Nat.{ℕ, zero, suc, _+_, _-_, _≤_, _<_}
 use lib.ListN.{length, replicate}
+use Rattle.star_lex.specs.Rules.{Rules}
 use Rattle.star_lex.specs.Tokens.{Token, Each, saveWord, loopWord, stopWord}
-use Rattle.star_grammar.specs.Tree.{IsValue, IsName, Inner, Packet, innerYield, packetYield, InnerWhole, PacketWhole, Entry, entryYield, EntryWhole, Member, memberYield, MemberWhole, File, fileYield, FileWhole, frameEnd, loopStart, stop}
+use Rattle.star_grammar.specs.Tree.{IsValue, IsName, Inner, Packet, innerYield, packetYield, InnerWhole, PacketWhole, Entry, entryYield, EntryBy, Member, memberYield, MemberBy, File, fileYield, FileBy, frameEnd, loopStart, stop}
 use Rattle.star_grammar.specs.Machine.{Where, inBlock, inFrame, Level, State, start, within, named, header, body}
 
 -- a token as files have them: a kind of the table, and the words `save_`, `loop_` and `stop_` for their contents
@@ -17,24 +19,24 @@ pub record Fixed (t : Token) : Type 0 where
   pub stop-is : t .kind ≡ 5 → t .content ≡ stopWord
 
 -- between the members of a block: members, then blocks
-pub record Members (limit : ℕ) (ts : List Token) : Type 0 where
+pub record Members (rules : Rules) (ts : List Token) : Type 0 where
   pub members : List Member
   pub blocks : File
   pub yield : ts ≡ flatMap memberYield members ++ fileYield blocks
-  pub members-whole : Each (MemberWhole limit) members
-  pub blocks-whole : FileWhole limit blocks
+  pub members-whole : Each (MemberBy rules) members
+  pub blocks-whole : FileBy rules blocks
 
 -- between the entries of a frame: entries, the frame's end, then the rest of the block
-pub record Entries (limit : ℕ) (ts : List Token) : Type 0 where
+pub record Entries (rules : Rules) (ts : List Token) : Type 0 where
   pub entries : List Entry
   pub after : List Token
   pub yield : ts ≡ flatMap entryYield entries ++ (frameEnd ∷ after)
-  pub whole : Each (EntryWhole limit) entries
-  pub rest : Members limit after
+  pub whole : Each (EntryBy rules) entries
+  pub rest : Members rules after
 
-abbrev pub InSet : (limit : ℕ) → Where → List Token → Type 0
-InSet limit (inBlock s) ts = Members limit ts
-InSet limit (inFrame b s) ts = Entries limit ts
+abbrev pub InSet : (rules : Rules) → Where → List Token → Type 0
+InSet rules (inBlock s) ts = Members rules ts
+InSet rules (inFrame b s) ts = Entries rules ts
 
 -- one value, then a row of the given sort
 pub record Valued (After : List Token → Type 0) (ts : List Token) : Type 0 where
@@ -70,13 +72,13 @@ pub record Filling (n f : ℕ) (inner : List ℕ) (After : List Token → Type 0
   pub rest : After after
 
 -- before a packet of a level: more of its packets, then out along the levels around it, and on in the set
-abbrev pub Levels : (limit : ℕ) → Where → List Level → (n : ℕ) → List ℕ → List Token → Type 0
-Levels limit w [] n inner = Packets n inner (InSet limit w)
-Levels limit w (o ∷ outer) n inner = Packets n inner (Stopped (Levels limit w outer (o .names) (n ∷ inner)))
+abbrev pub Levels : (rules : Rules) → Where → List Level → (n : ℕ) → List ℕ → List Token → Type 0
+Levels rules w [] n inner = Packets n inner (InSet rules w)
+Levels rules w (o ∷ outer) n inner = Packets n inner (Stopped (Levels rules w outer (o .names) (n ∷ inner)))
 
 -- in a header whose current level has n names, after those of the levels before, and s stops: more names, deeper levels and stops, then one
 -- packet or more. Names and levels come only before the first stop
-pub record Heading (limit : ℕ) (w : Where) (before : List ℕ) (n s : ℕ) (ts : List Token) : Type 0 where
+pub record Heading (rules : Rules) (w : Where) (before : List ℕ) (n s : ℕ) (ts : List Token) : Type 0 where
   pub names : List Token
   pub deeper : List (List Token)
   pub stops : ℕ
@@ -89,48 +91,50 @@ pub record Heading (limit : ℕ) (w : Where) (before : List ℕ) (n s : ℕ) (ts
   pub some-names : Each (λ ns. 1 ≤ length ns) deeper
   pub are-names : Each IsName names
   pub are-deeper : Each (Each IsName) deeper
-  pub levels : length before + length deeper < limit
+  pub levels : length before + length deeper < rules .levels
   pub stops-fit : s + stops ≤ length before + length deeper
+  pub stops-allowed : 1 ≤ stops → rules .headerStops ≡ true
   pub stopped : 1 ≤ s → (length names ≡ 0) × (length deeper ≡ 0)
-  pub packets : Filling first 0 inner (Levels limit w [] first inner) tail
+  pub packets : Filling first 0 inner (Levels rules w [] first inner) tail
 
-abbrev pub InBody : (limit : ℕ) → Where → List Level → Level → List ℕ → ℕ → List Token → Type 0
-InBody limit w outer l inner zero = Levels limit w outer (l .names) inner
-InBody limit w outer l inner (suc f) = Filling (l .names) (suc f) inner (Levels limit w outer (l .names) inner)
+abbrev pub InBody : (rules : Rules) → Where → List Level → Level → List ℕ → ℕ → List Token → Type 0
+InBody rules w outer l inner zero = Levels rules w outer (l .names) inner
+InBody rules w outer l inner (suc f) = Filling (l .names) (suc f) inner (Levels rules w outer (l .names) inner)
 
 -- a whole file
-pub record Blocks (limit : ℕ) (ts : List Token) : Type 0 where
+pub record Blocks (rules : Rules) (ts : List Token) : Type 0 where
   pub blocks : File
   pub yield : ts ≡ fileYield blocks
-  pub whole : FileWhole limit blocks
+  pub whole : FileBy rules blocks
 
-abbrev pub Rest : (limit : ℕ) → State → List Token → Type 0
-Rest limit start = Blocks limit
-Rest limit (within w) = InSet limit w
-Rest limit (named w) = Valued (InSet limit w)
-Rest limit (header w first before n s) = Heading limit w before n s
-Rest limit (body w outer l inner f) = InBody limit w outer l inner f
+abbrev pub Rest : (rules : Rules) → State → List Token → Type 0
+Rest rules start = Blocks rules
+Rest rules (within w) = InSet rules w
+Rest rules (named w) = Valued (InSet rules w)
+Rest rules (header w first before n s) = Heading rules w before n s
+Rest rules (body w outer l inner f) = InBody rules w outer l inner f
 
 -- the counts of a state that a run can reach: one name or more at each level but a header's current one, which has one before a stop; no more
--- levels than the limit; no more header stops than inner levels; a packet that is begun is not full
-pub record SaneHeader (limit : ℕ) (before : List ℕ) (n s : ℕ) : Type 0 where
+-- levels than the rules allow; no more header stops than inner levels, and none where the rules have none; a packet that is begun is not full
+pub record SaneHeader (rules : Rules) (before : List ℕ) (n s : ℕ) : Type 0 where
   pub some-names : Each (λ m. 1 ≤ m) before
-  pub levels : length before < limit
+  pub levels : length before < rules .levels
   pub stops-fit : s ≤ length before
+  pub stops-allowed : 1 ≤ s → rules .headerStops ≡ true
   pub stopped : 1 ≤ s → 1 ≤ n
 
-pub record SaneBody (limit : ℕ) (outer : List Level) (n : ℕ) (inner : List ℕ) (f : ℕ) : Type 0 where
+pub record SaneBody (rules : Rules) (outer : List Level) (n : ℕ) (inner : List ℕ) (f : ℕ) : Type 0 where
   pub some-outer : Each (λ o. 1 ≤ o .names) outer
   pub some-inner : Each (λ m. 1 ≤ m) inner
   pub room : f < n
-  pub levels : length outer + length inner < limit
+  pub levels : length outer + length inner < rules .levels
 
-abbrev pub Sane : (limit : ℕ) → State → Type 0
-Sane limit start = Unit {0}
-Sane limit (within w) = Unit {0}
-Sane limit (named w) = Unit {0}
-Sane limit (header w first before n s) = SaneHeader limit before n s
-Sane limit (body w outer l inner f) = SaneBody limit outer (l .names) inner f
+abbrev pub Sane : (rules : Rules) → State → Type 0
+Sane rules start = Unit {0}
+Sane rules (within w) = Unit {0}
+Sane rules (named w) = Unit {0}
+Sane rules (header w first before n s) = SaneHeader rules before n s
+Sane rules (body w outer l inner f) = SaneBody rules outer (l .names) inner f
 
 -- the word 0, as a value
 unfoldable pub zeroWord : Token

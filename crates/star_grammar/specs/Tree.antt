@@ -1,8 +1,10 @@
 -- The grammar, specification 4, as trees and the tokens that they yield. No parser stands here.
 use mathlib.Core.Path.{_≡_}
+use mathlib.Core.Bool.{true}
 use mathlib.Core.List.{List, [], _∷_, _++_, map, flatMap}
 use Prim.Native.Nat.{ℕ, _≤_, _<_}
 use lib.ListN.{length, replicate}
+use Rattle.star_lex.specs.Rules.{Rules, today, atLevels}
 use Rattle.star_lex.specs.Tokens.{Token, Each, saveWord, loopWord, stopWord}
 
 -- the tokens `save_`, `loop_` and `stop_`
@@ -60,14 +62,16 @@ loopYield l =
     (loopStart ∷ l .names) ++ (flatMap (λ ns. loopStart ∷ ns) (l .deeper) ++ (replicate (l .stops) stop
     ++ flatMap (packetYield (map length (l .deeper))) (l .packets)))
 
--- at most so many levels (8 by specification 4.13), one name or more at each, at most one header stop for each inner level, one packet or more at level 1
-pub record LoopWhole (limit : ℕ) (l : Loop) : Type 0 where
+-- by the rules: at most so many levels, one name or more at each, at most one header stop for each inner level and none where the rules have
+-- none, one packet or more at level 1
+pub record LoopBy (rules : Rules) (l : Loop) : Type 0 where
   pub some-name : 1 ≤ length (l .names)
   pub some-names : Each (λ ns. 1 ≤ length ns) (l .deeper)
   pub are-names : Each IsName (l .names)
   pub are-deeper : Each (Each IsName) (l .deeper)
-  pub levels : length (l .deeper) < limit
+  pub levels : length (l .deeper) < rules .levels
   pub stops-fit : l .stops ≤ length (l .deeper)
+  pub stops-allowed : 1 ≤ l .stops → rules .headerStops ≡ true
   pub some-packet : 1 ≤ length (l .packets)
   pub whole : Each (PacketWhole (length (l .names)) (map length (l .deeper))) (l .packets)
 
@@ -80,9 +84,9 @@ unfoldable pub entryYield : Entry → List Token
 entryYield (item n v) = n ∷ v ∷ []
 entryYield (looped l) = loopYield l
 
-unfoldable pub EntryWhole : (limit : ℕ) → Entry → Type 0
-EntryWhole limit (item n v) = IsName n × IsValue v
-EntryWhole limit (looped l) = LoopWhole limit l
+abbrev pub EntryBy : (rules : Rules) → Entry → Type 0
+EntryBy rules (item n v) = IsName n × IsValue v
+EntryBy rules (looped l) = LoopBy rules l
 
 -- a frame: a heading, any number of items and loops, and `save_`; frames do not nest
 pub record Frame : Type 0 where
@@ -92,9 +96,9 @@ pub record Frame : Type 0 where
 unfoldable pub frameYield : Frame → List Token
 frameYield f = f .heading ∷ (flatMap entryYield (f .entries) ++ (frameEnd ∷ []))
 
-pub record FrameWhole (limit : ℕ) (f : Frame) : Type 0 where
+pub record FrameBy (rules : Rules) (f : Frame) : Type 0 where
   pub heading : f .heading .kind ≡ 2
-  pub entries : Each (EntryWhole limit) (f .entries)
+  pub entries : Each (EntryBy rules) (f .entries)
 
 -- what a block holds: an entry of its own, or a frame
 pub data Member : Type 0 where
@@ -105,9 +109,9 @@ unfoldable pub memberYield : Member → List Token
 memberYield (own e) = entryYield e
 memberYield (framed f) = frameYield f
 
-unfoldable pub MemberWhole : (limit : ℕ) → Member → Type 0
-MemberWhole limit (own e) = EntryWhole limit e
-MemberWhole limit (framed f) = FrameWhole limit f
+abbrev pub MemberBy : (rules : Rules) → Member → Type 0
+MemberBy rules (own e) = EntryBy rules e
+MemberBy rules (framed f) = FrameBy rules f
 
 -- a block: a heading and any number of items, loops and frames
 pub record Block : Type 0 where
@@ -117,9 +121,9 @@ pub record Block : Type 0 where
 unfoldable pub blockYield : Block → List Token
 blockYield b = b .heading ∷ flatMap memberYield (b .members)
 
-pub record BlockWhole (limit : ℕ) (b : Block) : Type 0 where
+pub record BlockBy (rules : Rules) (b : Block) : Type 0 where
   pub heading : b .heading .kind ≡ 1
-  pub members : Each (MemberWhole limit) (b .members)
+  pub members : Each (MemberBy rules) (b .members)
 
 -- a file: any number of blocks
 abbrev pub File : Type 0
@@ -128,5 +132,20 @@ File = List Block
 abbrev pub fileYield : File → List Token
 fileYield f = flatMap blockYield f
 
+abbrev pub FileBy : (rules : Rules) → File → Type 0
+FileBy rules f = Each (BlockBy rules) f
+
+-- by today's rules but for the number of levels: for star_unique, whose laws have that number as a parameter
+unfoldable abbrev pub EntryWhole : (limit : ℕ) → Entry → Type 0
+unfolding EntryBy
+EntryWhole limit e = EntryBy (atLevels today limit) e
+
+unfoldable abbrev pub MemberWhole : (limit : ℕ) → Member → Type 0
+unfolding MemberBy
+MemberWhole limit m = MemberBy (atLevels today limit) m
+
+abbrev pub BlockWhole : (limit : ℕ) → Block → Type 0
+BlockWhole limit b = BlockBy (atLevels today limit) b
+
 abbrev pub FileWhole : (limit : ℕ) → File → Type 0
-FileWhole limit f = Each (BlockWhole limit) f
+FileWhole limit f = FileBy (atLevels today limit) f

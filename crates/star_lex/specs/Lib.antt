@@ -1,3 +1,4 @@
+pub mod Rules
 pub mod Tokens
 pub mod Split
 pub mod Plain

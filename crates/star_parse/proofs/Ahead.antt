@@ -8,6 +8,7 @@ use lib.Dec.{eqb, ltb}
 use lib.ListN.{getD, drop, drop-of-length-le}
 use lib.Seq.{drop-cons, drop-drop}
 use borrow.Author.Tests.{ne-eqb, ltb-true, ltb-false, eqb-true, eqb-false}
+use Rattle.star_lex.specs.Rules.{Rules}
 use Rattle.star_lex.specs.Tokens.{Token}
 use Rattle.star_grammar.specs.Tables.{Rows}
 use Rattle.star_grammar.specs.Machine.{Sort, sortOf, State, go, step, endRun, run}
@@ -65,18 +66,18 @@ number-some Sort.value = omega arith
 number-some Sort.global = omega arith
 
 -- the first token of a row whose next sort is this one
-pub run-ahead : (limit : ℕ) (st : State) (ts : List Token) (r : Rows) (k : Sort) → ahead ts ≡ sortNumber k
-    → run limit st ts r ≡ onward limit (drop 1 ts) r (step limit st k r)
+pub run-ahead : (rules : Rules) (st : State) (ts : List Token) (r : Rows) (k : Sort) → ahead ts ≡ sortNumber k
+    → run rules st ts r ≡ onward rules (drop 1 ts) r (step rules st k r)
 unfolding ahead
-run-ahead limit st [] r k e = absurd (omega (arith, number-some k))
-run-ahead limit st (t ∷ ts) r k e =
-    run-sort limit st t ts r k (sym (number-sort (sortOf (t .kind))) ∙ ap sortOf e ∙ number-sort k)
+run-ahead rules st [] r k e = absurd (omega (arith, number-some k))
+run-ahead rules st (t ∷ ts) r k e =
+    run-sort rules st t ts r k (sym (number-sort (sortOf (t .kind))) ∙ ap sortOf e ∙ number-sort k)
 
 -- the end
-pub run-end : (limit : ℕ) (st : State) (ts : List Token) (r : Rows) → ahead ts ≡ 0 → run limit st ts r ≡ endRun st r
+pub run-end : (rules : Rules) (st : State) (ts : List Token) (r : Rows) → ahead ts ≡ 0 → run rules st ts r ≡ endRun st r
 unfolding ahead run
-run-end limit st [] r e = refl
-run-end limit st (t ∷ ts) r e = absurd (omega (arith, number-some (sortOf (t .kind))))
+run-end rules st [] r e = refl
+run-end rules st (t ∷ ts) r e = absurd (omega (arith, number-some (sortOf (t .kind))))
 
 -- the place after the next token
 pub drop-next : (ts : List Token) (at next : ℕ) → next ≡ at + 1 → drop 1 (drop at ts) ≡ drop next ts

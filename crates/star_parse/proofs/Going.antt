@@ -6,6 +6,7 @@ use native.Mathlib.Numerals.{add-one}
 use native.Mathlib.Omega.{arith}
 use lib.ListN.{length, drop}
 use borrow.Author.Tests.{lt-ltb, le-ltb}
+use Rattle.star_lex.specs.Rules.{today}
 use Rattle.star_lex.specs.Tokens.{Token}
 use Rattle.star_grammar.specs.Tables.{Rows, pass, openLoop, putSet, putName, putPacket, putValue}
 use Rattle.star_grammar.specs.Machine.{Sort, sortOf, Where, inBlock, inFrame, setOf, Level, parentOf, State, start, within, named, header, body, go, between, filled, fill, valueAt, headerStep, noValue, noValueAt, bodyStep, startStep, namedStep, step, Run, good, endBetween, endRun, run}
@@ -24,7 +25,7 @@ no-value [] h = tt
 no-value (t ∷ ts) h = λ e. h (ap sortNumber e)
 
 closed-step : (b : ℕ) (k : Sort) (r : Rows) → (sortNumber k ≡ 2 → ⊥) → (sortNumber k ≡ 4 → ⊥) → (sortNumber k ≡ 6 → ⊥)
-    → step 8 start k r ≡ step 8 (within (inBlock b)) k r
+    → step today start k r ≡ step today (within (inBlock b)) k r
 unfolding step startStep between sortNumber
 closed-step b Sort.block r f l n = refl
 closed-step b Sort.frame r f l n = absurd (f refl)
@@ -36,29 +37,29 @@ closed-step b Sort.value r f l n = refl
 closed-step b Sort.global r f l n = refl
 
 block-closed : (b : ℕ) (ts : List Token) (r : Rows) → (ahead ts ≡ 2 → ⊥) → (ahead ts ≡ 4 → ⊥) → (ahead ts ≡ 6 → ⊥)
-    → run 8 start ts r ≡ run 8 (within (inBlock b)) ts r
+    → run today start ts r ≡ run today (within (inBlock b)) ts r
 unfolding ahead run endRun endBetween
 block-closed b [] r f l n = refl
-block-closed b (t ∷ ts) r f l n = run-alike 8 start (within (inBlock b)) t ts r (closed-step b (sortOf (t .kind)) r f l n)
+block-closed b (t ∷ ts) r f l n = run-alike today start (within (inBlock b)) t ts r (closed-step b (sortOf (t .kind)) r f l n)
 
 module _ (tokens : List Token) (before : FourTables) (outcome : Run) where
   -- over the next token
   step-on : (k : Sort) (put : Rows → Rows) {from to : State} {p r : Progress} {t u : FourTables} → At tokens before outcome from p t
       → ahead (drop (p .at) tokens) ≡ sortNumber k → r .at ≡ p .at + 1
-      → ((rows : Rows) → Matches before rows p t → step 8 from k rows ≡ go to (put rows))
+      → ((rows : Rows) → Matches before rows p t → step today from k rows ≡ go to (put rows))
       → ((rows : Rows) → Matches before rows p t → Matches before (put rows) r u) → At tokens before outcome to r u
   step-on k put {from} {to} {p} {r} a e n s m = record {
     rows = put (a .rows);
     matches = m (a .rows) (a .matches);
-    left = ap (λ ts. run 8 to ts (put (a .rows))) (sym (drop-next tokens (p .at) (r .at) n))
-        ∙ ap (onward 8 (drop 1 (drop (p .at) tokens)) (a .rows)) (sym (s (a .rows) (a .matches)))
-        ∙ sym (run-ahead 8 from (drop (p .at) tokens) (a .rows) k e)
+    left = ap (λ ts. run today to ts (put (a .rows))) (sym (drop-next tokens (p .at) (r .at) n))
+        ∙ ap (onward today (drop 1 (drop (p .at) tokens)) (a .rows)) (sym (s (a .rows) (a .matches)))
+        ∙ sym (run-ahead today from (drop (p .at) tokens) (a .rows) k e)
         ∙ a .left;
   }
 
   -- a state that runs alike from here
   pub alike : {from to : State} {p : Progress} {t : FourTables} → At tokens before outcome from p t
-      → ((rows : Rows) → run 8 to (drop (p .at) tokens) rows ≡ run 8 from (drop (p .at) tokens) rows) → At tokens before outcome to p t
+      → ((rows : Rows) → run today to (drop (p .at) tokens) rows ≡ run today from (drop (p .at) tokens) rows) → At tokens before outcome to p t
   alike a e = record { rows = a .rows; matches = a .matches; left = e (a .rows) ∙ a .left }
 
   -- no refusal yet
@@ -115,7 +116,7 @@ module _ (tokens : List Token) (before : FourTables) (outcome : Run) where
   unfolding sortNumber
   over-name {w} {set} {p} {r} {t} a s e q =
       step-on Sort.name (putName set 0 0) a e (q .counted .at)
-      (λ rows m. step-item 8 w rows ∙ ap (λ n. go (named w) (putName n 0 0 rows)) s)
+      (λ rows m. step-item today w rows ∙ ap (λ n. go (named w) (putName n 0 0 rows)) s)
       (λ rows m. matches-name before rows p r t m set 0 0 _ q)
 
   pub over-item-value : {w : Where} {p r : Progress} {t : FourTables} {values : List ℕ} → At tokens before outcome (named w) p t
@@ -133,7 +134,7 @@ module _ (tokens : List Token) (before : FourTables) (outcome : Run) where
   unfolding sortNumber
   over-loop {w} {p} {r} {t} a e v =
       step-on Sort.loop openLoop a e (v .at)
-      (λ rows m. step-loop 8 w rows ∙ ap (λ n. go (header w n [] 0 0) (openLoop rows)) (omega (arith, m .names, v .names)))
+      (λ rows m. step-loop today w rows ∙ ap (λ n. go (header w n [] 0 0) (openLoop rows)) (omega (arith, m .names, v .names)))
       (λ rows m. matches-open before rows p r t m v)
 
   pub over-level-name : {w : Where} {first set number : ℕ} {outer : List ℕ} {n : ℕ} {p r : Progress} {t : FourTables} {names : List ℕ}
@@ -147,11 +148,11 @@ module _ (tokens : List Token) (before : FourTables) (outcome : Run) where
       (λ rows m. matches-name before rows p r t m set (p .loops) number _ q)
 
   pub over-level : {w : Where} {first : ℕ} {outer : List ℕ} {n : ℕ} {p r : Progress} {t : FourTables}
-      → At tokens before outcome (header w first outer n 0) p t → ahead (drop (p .at) tokens) ≡ 4 → 0 < n → suc (length outer) < 8
+      → At tokens before outcome (header w first outer n 0) p t → ahead (drop (p .at) tokens) ≡ 4 → 0 < n → suc (length outer) < today .levels
       → Moved p 1 0 0 0 0 0 r → At tokens before outcome (header w first (n ∷ outer) 0 0) r t
   unfolding sortNumber
   over-level {w} {first} {outer} {n} {p} {r} {t} a e some l v =
-      step-on Sort.loop pass a e (v .at) (λ rows m. step-deeper 8 w first outer n rows some l) (λ rows m. matches-pass before rows p r t m v)
+      step-on Sort.loop pass a e (v .at) (λ rows m. step-deeper today w first outer n rows some l) (λ rows m. matches-pass before rows p r t m v)
 
   pub over-header-stop : {w : Where} {first : ℕ} {outer : List ℕ} {n s : ℕ} {p r : Progress} {t : FourTables}
       → At tokens before outcome (header w first outer n s) p t → ahead (drop (p .at) tokens) ≡ 5 → 0 < n → s < length outer
@@ -166,9 +167,9 @@ module _ (tokens : List Token) (before : FourTables) (outcome : Run) where
       → At tokens before outcome (body w [] (level m first 0) inner 0) p t
   unfolding sortNumber
   begins {w} {first} {outer} {n} {s} {m} {inner} {p} a e some q =
-      alike a (λ rows. run-ahead 8 (body w [] (level m first 0) inner 0) (drop (p .at) tokens) rows Sort.value e
-      ∙ ap (onward 8 (drop 1 (drop (p .at) tokens)) rows) (sym (step-begin 8 w first outer n s m inner rows some q))
-      ∙ sym (run-ahead 8 (header w first outer n s) (drop (p .at) tokens) rows Sort.value e))
+      alike a (λ rows. run-ahead today (body w [] (level m first 0) inner 0) (drop (p .at) tokens) rows Sort.value e
+      ∙ ap (onward today (drop 1 (drop (p .at) tokens)) rows) (sym (step-begin today w first outer n s m inner rows some q))
+      ∙ sym (run-ahead today (header w first outer n s) (drop (p .at) tokens) rows Sort.value e))
 
   -- the values of a packet
   pub over-first : {w : Where} {outer : List Level} {n first k number parent f : ℕ} {inner : List ℕ} {p q r : Progress} {t : FourTables} {packets values : List ℕ}
@@ -222,12 +223,12 @@ module _ (tokens : List Token) (before : FourTables) (outcome : Run) where
   -- between packets, the number of the one before is not read
   pub unpacked : {w : Where} {outer : List Level} {n first k : ℕ} {inner : List ℕ} {p : Progress} {t : FourTables}
       → At tokens before outcome (body w outer (level n first k) inner 0) p t → At tokens before outcome (body w outer (level n first 0) inner 0) p t
-  unpacked {w} {outer} {n} {first} {k} {inner} {p} a = alike a (λ rows. any-packet 8 w outer n first 0 k inner (drop (p .at) tokens) rows)
+  unpacked {w} {outer} {n} {first} {k} {inner} {p} a = alike a (λ rows. any-packet today w outer n first 0 k inner (drop (p .at) tokens) rows)
 
   -- after the packets of level 1, where no value comes
   pub leaves : {w : Where} {l : Level} {inner : List ℕ} {p : Progress} {t : FourTables} → At tokens before outcome (body w [] l inner 0) p t
       → (ahead (drop (p .at) tokens) ≡ 7 → ⊥) → At tokens before outcome (within w) p t
-  leaves {w} {l} {inner} {p} a h = alike a (λ rows. sym (after-loop 8 w l inner (drop (p .at) tokens) rows (no-value (drop (p .at) tokens) h)))
+  leaves {w} {l} {inner} {p} a h = alike a (λ rows. sym (after-loop today w l inner (drop (p .at) tokens) rows (no-value (drop (p .at) tokens) h)))
 
   -- in a block where no entry and no frame comes: as before a block
   pub closes : {b : ℕ} {p : Progress} {t : FourTables} → At tokens before outcome (within (inBlock b)) p t → (ahead (drop (p .at) tokens) ≡ 2 → ⊥)
@@ -237,7 +238,7 @@ module _ (tokens : List Token) (before : FourTables) (outcome : Run) where
   -- the end before a block
   pub accepts : {p : Progress} {t : FourTables} → (a : At tokens before outcome start p t) → ahead (drop (p .at) tokens) ≡ 0 → good (a .rows) ≡ outcome
   unfolding endRun
-  accepts {p} a e = sym (run-end 8 start (drop (p .at) tokens) (a .rows) e) ∙ a .left
+  accepts {p} a e = sym (run-end today start (drop (p .at) tokens) (a .rows) e) ∙ a .left
 
   -- refused, so that the whole read is
   pub whole-refused : (count : ℕ) {st : State} {p : Progress} {t : FourTables} → (p .refusal ≡ 0 → ⊥) → Comes tokens before outcome st p t

@@ -5,6 +5,7 @@ use Prim.Native.Nat.{ℕ, suc, _≤_, _<_}
 use native.Mathlib.Omega.{arith}
 use lib.ListN.{length}
 use borrow.Author.Tests.{le-ltb, lt-ltb, ne-eqb}
+use Rattle.star_lex.specs.Rules.{today}
 use Rattle.star_lex.specs.Tokens.{Token}
 use Rattle.star_grammar.specs.Tables.{Rows}
 use Rattle.star_grammar.specs.Machine.{Sort, sortOf, Where, inFrame, Level, State, start, within, named, header, body, refuse, between, headerStep, noValue, noValueAt, bodyStep, startStep, namedStep, step, bad, endBetween, endBody, endRun, run}
@@ -13,18 +14,18 @@ use Rattle.star_grammar.proofs.Sorts.{onward, run-onward}
 
 -- a state refuses what is ahead, with this number but for `global_`
 abbrev pub Refuses : State → (number sort : ℕ) → (ts : List Token) → Type 0
-Refuses st number sort ts = (r : Rows) → run 8 st ts r ≡ bad (refusalOf number sort) (r .tokens)
+Refuses st number sort ts = (r : Rows) → run today st ts r ≡ bad (refusalOf number sort) (r .tokens)
 
 -- by sorts, and at the end
 refuses : (st : State) (number : ℕ) (Ahead : ℕ → Type 0)
-    → ((k : Sort) (r : Rows) → Ahead (sortNumber k) → step 8 st k r ≡ refuse (refusalOf number (sortNumber k)))
+    → ((k : Sort) (r : Rows) → Ahead (sortNumber k) → step today st k r ≡ refuse (refusalOf number (sortNumber k)))
     → ((r : Rows) → Ahead 0 → endRun st r ≡ bad number (r .tokens))
     → (ts : List Token) → Ahead (ahead ts) → Refuses st number (ahead ts) ts
 unfolding ahead run refusalOf
 refuses st number Ahead s e [] h r = e r h
-refuses st number Ahead s e (t ∷ ts) h r = run-onward 8 st t ts r ∙ ap (onward 8 ts r) (s (sortOf (t .kind)) r h)
+refuses st number Ahead s e (t ∷ ts) h r = run-onward today st t ts r ∙ ap (onward today ts r) (s (sortOf (t .kind)) r h)
 
-start-step : (k : Sort) (r : Rows) → (sortNumber k ≡ 1 → ⊥) → step 8 start k r ≡ refuse (refusalOf 8 (sortNumber k))
+start-step : (k : Sort) (r : Rows) → (sortNumber k ≡ 1 → ⊥) → step today start k r ≡ refuse (refusalOf 8 (sortNumber k))
 unfolding step startStep sortNumber refusalOf
 start-step Sort.block r h = absurd (h refl)
 start-step Sort.frame r h = refl
@@ -41,7 +42,7 @@ start-refuses ts n h =
     refuses start 8 (λ k. (k ≡ 0 → ⊥) × (k ≡ 1 → ⊥)) (λ k r a. start-step k r (a .1)) (λ r a. absurd (a .0 refl)) ts (n, h)
 
 frame-step : (b s : ℕ) (k : Sort) (r : Rows) → (sortNumber k ≡ 3 → ⊥) → (sortNumber k ≡ 4 → ⊥) → (sortNumber k ≡ 6 → ⊥)
-    → step 8 (within (inFrame b s)) k r ≡ refuse (refusalOf 8 (sortNumber k))
+    → step today (within (inFrame b s)) k r ≡ refuse (refusalOf 8 (sortNumber k))
 unfolding step between sortNumber refusalOf
 frame-step b s Sort.block r e l n = refl
 frame-step b s Sort.frame r e l n = refl
@@ -60,7 +61,7 @@ frame-refuses b s ts e l n =
     refuses (within (inFrame b s)) 8 (λ k. (k ≡ 3 → ⊥) × (k ≡ 4 → ⊥) × (k ≡ 6 → ⊥)) (λ k r a. frame-step b s k r (a .0) (a .1) (a .2)) (λ r a. refl) ts
     (e, l, n)
 
-named-step : (w : Where) (k : Sort) (r : Rows) → (sortNumber k ≡ 7 → ⊥) → step 8 (named w) k r ≡ refuse (refusalOf 8 (sortNumber k))
+named-step : (w : Where) (k : Sort) (r : Rows) → (sortNumber k ≡ 7 → ⊥) → step today (named w) k r ≡ refuse (refusalOf 8 (sortNumber k))
 unfolding step namedStep sortNumber refusalOf
 named-step w Sort.block r h = refl
 named-step w Sort.frame r h = refl
@@ -77,7 +78,7 @@ unfolding endRun
 named-refuses w ts h = refuses (named w) 8 (λ k. k ≡ 7 → ⊥) (named-step w) (λ r a. refl) ts h
 
 nameless-step : (w : Where) (first : ℕ) (before : List ℕ) (k : Sort) (r : Rows) → (sortNumber k ≡ 6 → ⊥)
-    → step 8 (header w first before 0 0) k r ≡ refuse (refusalOf 8 (sortNumber k))
+    → step today (header w first before 0 0) k r ≡ refuse (refusalOf 8 (sortNumber k))
 unfolding step headerStep sortNumber refusalOf
 nameless-step w first before Sort.block r h = refl
 nameless-step w first before Sort.frame r h = refl
@@ -95,17 +96,17 @@ unfolding endRun
 nameless-refuses w first before ts h = refuses (header w first before 0 0) 8 (λ k. k ≡ 6 → ⊥) (nameless-step w first before) (λ r a. refl) ts h
 
 -- `loop_` after the last level that is allowed
-pub deepest-refuses : (w : Where) (first : ℕ) (before : List ℕ) (n : ℕ) (ts : List Token) → 0 < n → 8 ≤ suc (length before) → ahead ts ≡ 4
+pub deepest-refuses : (w : Where) (first : ℕ) (before : List ℕ) (n : ℕ) (ts : List Token) → 0 < n → today .levels ≤ suc (length before) → ahead ts ≡ 4
     → Refuses (header w first before n 0) 11 (ahead ts) ts
 unfolding endRun step headerStep sortNumber refusalOf
 deepest-refuses w first before n ts some l e =
     refuses (header w first before n 0) 11 (λ k. k ≡ 4) at (λ r a. absurd (omega arith)) ts e
   where
-    at : (k : Sort) (r : Rows) → sortNumber k ≡ 4 → step 8 (header w first before n 0) k r ≡ refuse (refusalOf 11 (sortNumber k))
+    at : (k : Sort) (r : Rows) → sortNumber k ≡ 4 → step today (header w first before n 0) k r ≡ refuse (refusalOf 11 (sortNumber k))
     at Sort.block r a = absurd (omega arith)
     at Sort.frame r a = absurd (omega arith)
     at Sort.frameEnd r a = absurd (omega arith)
-    at Sort.loop r a = rw (lt-ltb 0 n some, le-ltb (suc (length before)) 8 l)
+    at Sort.loop r a = rw (lt-ltb 0 n some, le-ltb (suc (length before)) (today .levels) l)
     at Sort.stop r a = absurd (omega arith)
     at Sort.name r a = absurd (omega arith)
     at Sort.value r a = absurd (omega arith)
@@ -119,7 +120,7 @@ pub record Closed (before stops sort : ℕ) : Type 0 where
   pub name : sort ≡ 6 → 0 < stops
 
 closed-step : (w : Where) (first : ℕ) (before : List ℕ) (n s : ℕ) (k : Sort) (r : Rows) → 0 < n → Closed (length before) s (sortNumber k)
-    → step 8 (header w first before n s) k r ≡ refuse (refusalOf 8 (sortNumber k))
+    → step today (header w first before n s) k r ≡ refuse (refusalOf 8 (sortNumber k))
 unfolding step headerStep sortNumber refusalOf
 closed-step w first before n s Sort.block r some h = refl
 closed-step w first before n s Sort.frame r some h = refl
@@ -137,7 +138,7 @@ closed-refuses w first before n s ts some h =
     refuses (header w first before n s) 8 (Closed (length before) s) (λ k r a. closed-step w first before n s k r some a) (λ r a. refl) ts h
 
 partial-step : (w : Where) (outer : List Level) (l : Level) (inner : List ℕ) (f : ℕ) (k : Sort) (r : Rows) → (sortNumber k ≡ 7 → ⊥)
-    → step 8 (body w outer l inner (suc f)) k r ≡ refuse (refusalOf 10 (sortNumber k))
+    → step today (body w outer l inner (suc f)) k r ≡ refuse (refusalOf 10 (sortNumber k))
 unfolding step bodyStep noValueAt sortNumber refusalOf
 partial-step w outer l inner f Sort.block r h = refl
 partial-step w outer l inner f Sort.frame r h = refl
@@ -161,7 +162,7 @@ partial-refuses w outer l inner f ts h =
     refuses (body w outer l inner (suc f)) 10 (λ k. k ≡ 7 → ⊥) (partial-step w outer l inner f) (λ r a. partial-end w outer l inner f r) ts h
 
 open-step : (w : Where) (o : Level) (outer : List Level) (l : Level) (inner : List ℕ) (k : Sort) (r : Rows) → (sortNumber k ≡ 7 → ⊥)
-    → (sortNumber k ≡ 5 → ⊥) → step 8 (body w (o ∷ outer) l inner 0) k r ≡ refuse (refusalOf 10 (sortNumber k))
+    → (sortNumber k ≡ 5 → ⊥) → step today (body w (o ∷ outer) l inner 0) k r ≡ refuse (refusalOf 10 (sortNumber k))
 unfolding step bodyStep noValueAt noValue sortNumber refusalOf
 open-step w o outer l inner Sort.block r h s = refl
 open-step w o outer l inner Sort.frame r h s = refl

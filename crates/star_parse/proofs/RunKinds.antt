@@ -9,6 +9,7 @@ use lib.Dec.{leb}
 use lib.ListN.{length, getD, drop}
 use lib.Seq.{getD-drop}
 use Rattle.star_text.specs.Bytes.{mostBytes}
+use Rattle.star_lex.specs.Rules.{Rules, today}
 use Rattle.star_lex.specs.Tokens.{Token, Placed, tokenRow}
 use Rattle.star_rows.specs.Rows.{holding}
 use Rattle.star_grammar.specs.Tables.{Rows, noRows}
@@ -16,22 +17,22 @@ use Rattle.star_grammar.specs.Machine.{sortOf, State, Step, go, refuse, step, r
 use Rattle.star_parse.specs.Parsed.{kindTokens, hasRows, rowsRun}
 use Rattle.star_grammar.proofs.Sorts.{onward, run-onward}
 
-onward-kinds : (limit : ℕ) (ts us : List Token) (r : Rows) → ((s : State) (r′ : Rows) → run limit s ts r′ ≡ run limit s us r′)
-    → (x : Step) → onward limit ts r x ≡ onward limit us r x
-onward-kinds limit ts us r f (go s r′) = f s r′
-onward-kinds limit ts us r f (refuse n) = refl
+onward-kinds : (rules : Rules) (ts us : List Token) (r : Rows) → ((s : State) (r′ : Rows) → run rules s ts r′ ≡ run rules s us r′)
+    → (x : Step) → onward rules ts r x ≡ onward rules us r x
+onward-kinds rules ts us r f (go s r′) = f s r′
+onward-kinds rules ts us r f (refuse n) = refl
 
 -- tokens of the same kinds
-pub run-kinds : (limit : ℕ) (st : State) (ts us : List Token) (r : Rows) → map (λ t. t .kind) ts ≡ map (λ t. t .kind) us
-    → run limit st ts r ≡ run limit st us r
-run-kinds limit st [] [] r e = refl
-run-kinds limit st [] (u ∷ us) r e = let z : _≡_ {A = ℕ} 0 1 = cc in absurd (omega arith)
-run-kinds limit st (t ∷ ts) [] r e = let z : _≡_ {A = ℕ} 0 1 = cc in absurd (omega arith)
-run-kinds limit st (t ∷ ts) (u ∷ us) r e =
-    run-onward limit st t ts r
-    ∙ onward-kinds limit ts us r (λ s r′. run-kinds limit s ts us r′ (cc)) (step limit st (sortOf (t .kind)) r)
-    ∙ ap (λ n. onward limit us r (step limit st (sortOf n) r)) (cc)
-    ∙ sym (run-onward limit st u us r)
+pub run-kinds : (rules : Rules) (st : State) (ts us : List Token) (r : Rows) → map (λ t. t .kind) ts ≡ map (λ t. t .kind) us
+    → run rules st ts r ≡ run rules st us r
+run-kinds rules st [] [] r e = refl
+run-kinds rules st [] (u ∷ us) r e = let z : _≡_ {A = ℕ} 0 1 = cc in absurd (omega arith)
+run-kinds rules st (t ∷ ts) [] r e = let z : _≡_ {A = ℕ} 0 1 = cc in absurd (omega arith)
+run-kinds rules st (t ∷ ts) (u ∷ us) r e =
+    run-onward rules st t ts r
+    ∙ onward-kinds rules ts us r (λ s r′. run-kinds rules s ts us r′ (cc)) (step rules st (sortOf (t .kind)) r)
+    ∙ ap (λ n. onward rules us r (step rules st (sortOf n) r)) (cc)
+    ∙ sym (run-onward rules st u us r)
 
 -- the tokens of a table whose rows are these tokens
 pub kinds-of-rows : (ps : List Placed) (rest : List ℕ)
@@ -50,9 +51,9 @@ unfolding holding
 kinds-of-holding ps words = kinds-of-rows ps _
 
 -- a run over a table that holds these tokens is a run over them
-pub run-holding : (limit : ℕ) (st : State) (ps : List Placed) (words : ℕ) (r : Rows)
-    → run limit st (kindTokens (length ps) (holding tokenRow ps words)) r ≡ run limit st (map (λ p. p .token) ps) r
-run-holding limit st ps words r = run-kinds limit st _ _ r (kinds-of-holding ps words ∙ sym (kinds-of-tokens ps))
+pub run-holding : (rules : Rules) (st : State) (ps : List Placed) (words : ℕ) (r : Rows)
+    → run rules st (kindTokens (length ps) (holding tokenRow ps words)) r ≡ run rules st (map (λ p. p .token) ps) r
+run-holding rules st ps words r = run-kinds rules st _ _ r (kinds-of-holding ps words ∙ sym (kinds-of-tokens ps))
 
 pub length-kinds : (count : ℕ) (words : List ℕ) → length (kindTokens count words) ≡ count
 unfolding kindTokens
@@ -75,6 +76,6 @@ has-rows-fits count words e =
     (leb-true _ _ a, leb-true _ _ b)
 
 pub rows-run : (count : ℕ) (words : List ℕ) → count * 3 ≤ length words → count ≤ mostBytes
-    → rowsRun count words ≡ run 8 start (kindTokens count words) noRows
+    → rowsRun count words ≡ run today start (kindTokens count words) noRows
 unfolding rowsRun hasRows
 rows-run count words h k = rw (le-leb (count * 3) (length words) h, le-leb count mostBytes k)

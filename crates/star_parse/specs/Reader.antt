@@ -6,6 +6,7 @@ use Prim.Native.Nat.{ℕ, suc, _+_, _*_, _≤_, _<_}
 use lib.Dec.{eqb, ltb}
 use lib.ListN.{length, getD, take, drop}
 use Rattle.star_text.specs.Bytes.{mostBytes}
+use Rattle.star_lex.specs.Rules.{today}
 use Rattle.star_lex.specs.Tokens.{Token}
 use Rattle.star_rows.specs.Rows.{putRow}
 use Rattle.star_grammar.specs.Tables.{Rows}
@@ -127,7 +128,7 @@ pub record Matches (before : FourTables) (rows : Rows) (p : Progress) (t : FourT
 pub record At (tokens : List Token) (before : FourTables) (outcome : Run) (st : State) (p : Progress) (t : FourTables) : Type 0 where
   pub rows : Rows
   pub matches : Matches before rows p t
-  pub left : run 8 st (drop (p .at) tokens) rows ≡ outcome
+  pub left : run today st (drop (p .at) tokens) rows ≡ outcome
 
 -- it has come to a state, or the outcome is the refusal
 pub record Comes (tokens : List Token) (before : FourTables) (outcome : Run) (st : State) (p : Progress) (t : FourTables) : Type 0 where
@@ -177,11 +178,11 @@ pub record Stops (count : ℕ) (tokens : List ℕ) (inner : ℕ) (p r : Progress
   pub last : sortAt count tokens (r .at) ≡ 5 → p .at + inner ≤ r .at
   pub goes : Goes
 
--- a state of a loop: the current level is one of at most 8, and the row numbers fit
+-- a state of a loop: the current level is one of those that the rules allow, and the row numbers fit
 pub record InLoop (s : LoopState) : Type 0 where
   pub size : length (s .counts) ≡ 8
   pub some : s .level < s .levels
-  pub limit : s .levels ≤ 8
+  pub limit : s .levels ≤ today .levels
   pub few : (i : ℕ) → getD (s .counts) i 0 ≤ mostBytes
   pub first : s .first ≤ (mostBytes + 1) + mostBytes * s .level
 

@@ -10,6 +10,7 @@ ghost use mathlib.Core.List.{List};
 ghost use Prim.Native.Nat.{ℕ, _+_, _*_, _≤_};
 ghost use lib.ListN.{length};
 ghost use Rattle.star_text.specs.Bytes.{mostBytes};
+ghost use Rattle.star_lex.specs.Rules.{today};
 ghost use Rattle.star_grammar.specs.Tables.{noRows};
 ghost use Rattle.star_grammar.specs.Machine.{Where, inBlock, setOf, start, within, run};
 ghost use Rattle.star_parse.specs.Parsed.{kindTokens, tables, hasRows, rowsRun, Refused, Answers};
@@ -155,7 +156,7 @@ fn read_blocks(
 ) -> Progress
     requires { ⌜ count * 3 ≤ length (now tokens) ⌝ }
     requires { ⌜ count ≤ mostBytes ⌝ }
-    ensures { λ r. ⌜ Whole count (run 8 start (kindTokens count (now (tokens .entry))) noRows)
+    ensures { λ r. ⌜ Whole count (run today start (kindTokens count (now (tokens .entry))) noRows)
         (tables (now (sets .entry)) (now (names .entry)) (now (packets .entry)) (now (values .entry))) r
         (tables (now (sets .exit)) (now (names .exit)) (now (packets .exit)) (now (values .exit))) ⌝ }
 {

@@ -6,6 +6,7 @@ use native.Mathlib.Omega.{arith}
 use lib.ListN.{length}
 use Rattle.star_rows.specs.Rows.{holding}
 use Rattle.star_rows.proofs.Held.{length-holding}
+use Rattle.star_lex.specs.Rules.{today}
 use Rattle.star_lex.specs.Tokens.{Placed, tokenRow}
 use Rattle.star_lex.specs.Split.{Split, placed}
 use Rattle.star_lex.specs.Split as Split
@@ -32,8 +33,8 @@ read-number file w n place e z = go (tokensIn file (w .tokens)) refl e
     go : (s : Split) → tokensIn file (w .tokens) ≡ s → after (length file) w s ≡ refused n place → ⊥
     go (Split.refused m q) d h = let k : m ≡ n = cc in in-number file (w .tokens) m q d (k ∙ z)
     go (Split.accepted ps) d h =
-        let s : Settled w (length file) ps (firstRepeat nothing (tokensOnly ps)) (run 8 start (tokensOnly ps) noRows) =
-        settled _ _ _ _ _ (run-number 8 start (tokensOnly ps) noRows) (ap (λ o. judgedOf o .refusal) h ∙ z) in
+        let s : Settled w (length file) ps (firstRepeat nothing (tokensOnly ps)) (run today start (tokensOnly ps) noRows) =
+        settled _ _ _ _ _ (run-number today start (tokensOnly ps) noRows) (ap (λ o. judgedOf o .refusal) h ∙ z) in
         refused≢accepted n place ps (s .rows) (sym h ∙ s .outcome)
 
 pub answer-refused : (o : Outcome) (r : Reading) → r ≡ answerOf o → (r .refusal ≡ 0 → ⊥) → o ≡ refused (r .refusal) (r .place)

@@ -6,6 +6,7 @@ use Prim.Native.Nat.{ℕ, zero, suc, _≤_}
 use native.Mathlib.Omega.{arith}
 use lib.ListN.{length}
 use Rattle.star_text.specs.Bytes.{mostBytes}
+use Rattle.star_lex.specs.Rules.{Rules, today}
 use Rattle.star_lex.specs.Tokens.{Token, Placed, Each}
 use Rattle.star_lex.specs.Split.{tokensOf}
 use Rattle.star_lex.specs.Split as Split
@@ -14,7 +15,7 @@ use Rattle.star_lex.specs.WellFormed.{WellFormed}
 use Rattle.star_lex.proofs.Each.{each-append}
 use Rattle.star_lex.proofs.FreshName.{fresh-name-of}
 use Rattle.star_lex.proofs.PlainSplit.{lex-plain}
-use Rattle.star_grammar.specs.Tree.{File, fileYield, FileWhole}
+use Rattle.star_grammar.specs.Tree.{File, fileYield, FileBy}
 use Rattle.star_grammar.specs.Tables.{Rows, noRows}
 use Rattle.star_grammar.specs.Machine.{State, start, within, named, header, body, go, walk, good, run}
 use Rattle.star_grammar.specs.Rest.{zeroWord, ending, completion}
@@ -30,17 +31,17 @@ use Rattle.star_read.specs.Demands.{Begins, BeginsShape}
 use Rattle.star_read.proofs.Readings.{yield-run, reading-run, reading-clean, tree-reading}
 
 -- a row that begins what a run accepts
-run-first : (limit : ℕ) (p rest ts : List Token) (rows : Rows) → ts ≡ p ++ rest → run limit start ts noRows ≡ good rows → Walks limit start p noRows
-run-first limit p rest ts rows e g = walks-first limit p rest start noRows (rw e at (good-walks limit ts start noRows rows g))
+run-first : (rules : Rules) (p rest ts : List Token) (rows : Rows) → ts ≡ p ++ rest → run rules start ts noRows ≡ good rows → Walks rules start p noRows
+run-first rules p rest ts rows e g = walks-first rules p rest start noRows (rw e at (good-walks rules ts start noRows rows g))
 
-pub begins-walks : (p : List Token) → Begins p → Walks 8 start p noRows
-begins-walks p b = run-first 8 p (b .rest) (tokensOnly (b .tokens)) _ (b .starts) (reading-run (tokensOnly (b .tokens)) (b .reading))
+pub begins-walks : (p : List Token) → Begins p → Walks today start p noRows
+begins-walks p b = run-first today p (b .rest) (tokensOnly (b .tokens)) _ (b .starts) (reading-run (tokensOnly (b .tokens)) (b .reading))
 
 pub begins-clean : (p : List Token) → Begins p → Clean nothing p
 begins-clean p b = clean-append nothing p (b .rest) .0 (rw (b .starts) at (reading-clean (tokensOnly (b .tokens)) (b .reading))) .0
 
-pub shape-walks : (limit : ℕ) (p : List Token) → BeginsShape limit p → Walks limit start p noRows
-shape-walks limit p b = run-first limit p (b .rest) (tokensOnly (b .tokens)) _ (b .starts) (yield-run limit (b .tree) _ (b .yield) (b .whole))
+pub shape-walks : (rules : Rules) (p : List Token) → BeginsShape rules p → Walks rules start p noRows
+shape-walks rules p b = run-first rules p (b .rest) (tokensOnly (b .tokens)) _ (b .starts) (yield-run rules (b .tree) _ (b .yield) (b .whole))
 
 -- a first part of a row that begins a file
 pub begins-first : (p q : List Token) → Begins (p ++ q) → Begins p
@@ -74,29 +75,29 @@ clean-completion p (body w outer l inner f) x c k n =
     quiet-after nothing p (ending (body w outer l inner f)) c (quiet-ending (body w outer l inner f))
 
 -- a row with its completion
-record Completed (limit : ℕ) (p : List Token) (st : State) (x : Token) : Type 0 where
+record Completed (rules : Rules) (p : List Token) (st : State) (x : Token) : Type 0 where
   tokens : List Placed
   splits : tokensOf (plainOf (p ++ completion st x)) ≡ Split.accepted tokens
   are : tokensOnly tokens ≡ p ++ completion st x
   tree : File
   yield : fileYield tree ≡ tokensOnly tokens
-  whole : FileWhole limit tree
+  whole : FileBy rules tree
 
-module _ (limit : ℕ) (least : 1 ≤ limit) (p : List Token) (h : Each WellFormed p) (st : State) (r : Rows) (e : walk limit start p noRows ≡ go st r) where
-  completed : (x : List ℕ) → WellFormed (record { kind = 6; content = x }) → Completed limit p st (record { kind = 6; content = x })
+module _ (rules : Rules) (least : 1 ≤ rules .levels) (p : List Token) (h : Each WellFormed p) (st : State) (r : Rows) (e : walk rules start p noRows ≡ go st r) where
+  completed : (x : List ℕ) → WellFormed (record { kind = 6; content = x }) → Completed rules p st (record { kind = 6; content = x })
   completed x w =
       let t : Token = record { kind = 6; content = x } in
       let s : (ps : List Placed) × (tokensOf (plainOf (p ++ completion st t)) ≡ Split.accepted ps) × (tokensOnly ps ≡ p ++ completion st t)
       = lex-plain (p ++ completion st t) (each-append WellFormed p (completion st t) .1 (h, formed-completion st t w)) in
-      let a : (f : File) × (fileYield f ≡ p ++ completion st t) × FileWhole limit f
-      = rest-alive limit least p (each-fixed p h) st r e t (record { kind6 = refl }) in
+      let a : (f : File) × (fileYield f ≡ p ++ completion st t) × FileBy rules f
+      = rest-alive rules least p (each-fixed p h) st r e t (record { kind6 = refl }) in
       record { tokens = s .0; splits = s .1; are = s .2; tree = a .0; yield = a .1 ∙ sym (s .2); whole = a .2 }
 
-pub walks-shape : (limit : ℕ) → 1 ≤ limit → (p : List Token) → Each WellFormed p → Walks limit start p noRows → BeginsShape limit p
-walks-shape limit least p h k =
+pub walks-shape : (rules : Rules) → 1 ≤ rules .levels → (p : List Token) → Each WellFormed p → Walks rules start p noRows → BeginsShape rules p
+walks-shape rules least p h k =
     let n : (x : List ℕ) × WellFormed (record { kind = 6; content = x }) × (List·Memᴰ x [] → ⊥) = fresh-name-of 1 [] (omega arith) (omega arith) (omega arith) in
     let t : Token = record { kind = 6; content = n .0 } in
-    let c : Completed limit p (k .0) t = completed limit least p h (k .0) (k .1) (k .2) (n .0) (n .1) in
+    let c : Completed rules p (k .0) t = completed rules least p h (k .0) (k .1) (k .2) (n .0) (n .1) in
     record {
       file = plainOf (p ++ completion (k .0) t);
       tokens = c .tokens;
@@ -108,12 +109,12 @@ walks-shape limit least p h k =
       starts = c .are;
     }
 
-pub walks-begins : (p : List Token) → Each WellFormed p → length p ≤ mostBytes → Walks 8 start p noRows → Clean nothing p → Begins p
+pub walks-begins : (p : List Token) → Each WellFormed p → length p ≤ mostBytes → Walks today start p noRows → Clean nothing p → Begins p
 walks-begins p h l k c =
     let n : (x : List ℕ) × WellFormed (record { kind = 6; content = x }) × (List·Memᴰ x (namesIn p) → ⊥)
     = fresh-name-of 21 (namesIn p) (omega arith) (omega arith) (omega (arith, names-count p)) in
     let t : Token = record { kind = 6; content = n .0 } in
-    let d : Completed 8 p (k .0) t = completed 8 (omega arith) p h (k .0) (k .1) (k .2) (n .0) (n .1) in
+    let d : Completed today p (k .0) t = completed today (omega arith) p h (k .0) (k .1) (k .2) (n .0) (n .1) in
     record {
       file = plainOf (p ++ completion (k .0) t);
       tokens = d .tokens;

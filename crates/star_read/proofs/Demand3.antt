@@ -7,6 +7,7 @@ use Prim.Native.Nat.{ℕ}
 use native.Mathlib.Omega.{arith}
 use borrow.Author.Tests.{le-ltb}
 use lib.ListN.{length, length-map}
+use Rattle.star_lex.specs.Rules.{today}
 use Rattle.star_lex.specs.Tokens.{Placed}
 use Rattle.star_lex.specs.Split.{Split, tokensOf}
 use Rattle.star_lex.specs.Split as Split
@@ -30,7 +31,7 @@ use Rattle.star_read.proofs.FirstBad.{verdict-bad}
 
 -- a row that the grammar accepts
 pub accepted-verdict : (ps qs : List Placed) (size : ℕ) (rows : Rows) (o : Outcome) → Verdict ps size o → o ≡ accepted qs rows
-    → (ps ≡ qs) × (run 8 start (tokensOnly ps) noRows ≡ good rows) × Clean nothing (tokensOnly ps)
+    → (ps ≡ qs) × (run today start (tokensOnly ps) noRows ≡ good rows) × Clean nothing (tokensOnly ps)
 accepted-verdict ps qs size rows o (Verdict.reads u e c) q = ((cc), e ∙ ap good (let k : u ≡ rows = cc in k), c)
 accepted-verdict ps qs size rows o (Verdict.repeats place p t q e l c w k) d = impossible cc
 accepted-verdict ps qs size rows o (Verdict.halts n place p t q e l c st r w k) d = impossible cc
@@ -43,7 +44,7 @@ reading-accepted ps size r =
     rw (reading-run (tokensOnly ps) r, clean-repeat nothing (tokensOnly ps) (reading-clean (tokensOnly ps) r), length-map, le-ltb (length ps) (length ps) (omega arith))
 
 pub one-reading : OneReading
-one-reading ts r s = unambiguous 8 (r .tree) (s .tree) (r .whole) (s .whole) (r .yield ∙ sym (s .yield))
+one-reading ts r s = unambiguous today (r .tree) (s .tree) (r .whole) (s .whole) (r .yield ∙ sym (s .yield))
 
 rows-after : (file : List ℕ) (words : Sizes) (ps : List Placed) (rows : Rows) (s : Split) → tokensIn file (words .tokens) ≡ s
     → after (length file) words s ≡ accepted ps rows
@@ -51,7 +52,7 @@ rows-after : (file : List ℕ) (words : Sizes) (ps : List Placed) (rows : Rows) 
 unfolding after
 rows-after file words ps rows (Split.refused n place) d e = absurd (refused≢accepted n place ps rows e)
 rows-after file words ps rows (Split.accepted qs) d e =
-    let v : (qs ≡ ps) × (run 8 start (tokensOnly qs) noRows ≡ good rows) × Clean nothing (tokensOnly qs)
+    let v : (qs ≡ ps) × (run today start (tokensOnly qs) noRows ≡ good rows) × Clean nothing (tokensOnly qs)
     = accepted-verdict qs ps (length file) rows _ (verdict qs (length file)) (fits-accepted words _ ps rows e) in
     let s : tokensOf file ≡ Split.accepted qs = tokens-accepted file (words .tokens) qs d in
     let r : (r : Reading (tokensOnly qs)) × (rows ≡ rowsOf (r .tree)) = run-reading (tokensOnly qs) rows (split-well-formed file qs s) (v .1) (v .2) in
@@ -75,7 +76,7 @@ fair-bad file words ps f n place e = by (grammarOf (length file) ps) (verdict ps
     by : (o : Outcome) → Verdict ps (length file) o → fitting words o ≡ refused n place → Bad file ps n place
     by (refused m i) v d = verdict-bad file words ps (f .tokenized) n place (refused m i) v d
     by (accepted qs rows) v d =
-        let k : (ps ≡ qs) × (run 8 start (tokensOnly ps) noRows ≡ good rows) × Clean nothing (tokensOnly ps) = accepted-verdict ps qs (length file) rows _ v refl in
+        let k : (ps ≡ qs) × (run today start (tokensOnly ps) noRows ≡ good rows) × Clean nothing (tokensOnly ps) = accepted-verdict ps qs (length file) rows _ v refl in
         absurd (refused≢accepted n place ps rows (sym (rw (← (k .0)) at d) ∙ accepted-fits file words ps f rows (k .1) (k .2)))
 
 pub place-of-refusal : PlaceOfRefusal

@@ -7,6 +7,7 @@ use Prim.Native.Nat.{ℕ, _≤_}
 use native.Mathlib.Omega.{arith}
 use lib.ListN.{length, length-append, length-map}
 use Rattle.star_text.specs.Bytes.{mostBytes}
+use Rattle.star_lex.specs.Rules.{today}
 use Rattle.star_lex.specs.Tokens.{Placed, Each}
 use Rattle.star_lex.specs.WellFormed.{WellFormed}
 use Rattle.star_lex.proofs.Each.{each-append}
@@ -30,10 +31,10 @@ use Rattle.star_read.proofs.Fitting.{room-fits}
 pub taken-begins : (p : List Placed) (t : Placed) → isTaken (takesAll nothing (tokensOnly p)) (t .token) ≡ true → Begins (tokensOnly (p ++ (t ∷ []))) → ⊥
 taken-begins p t e b = taken-unclean nothing (tokensOnly p) (t .token) [] e (rw map-append at (begins-clean (tokensOnly (p ++ (t ∷ []))) b))
 
-pub halted-begins : (n : ℕ) (p : List Placed) (t : Placed) (st : State) (r : Rows) → walk 8 start (tokensOnly p) noRows ≡ go st r
-    → step 8 st (sortOf (t .token .kind)) r ≡ refuse n → Begins (tokensOnly (p ++ (t ∷ []))) → ⊥
+pub halted-begins : (n : ℕ) (p : List Placed) (t : Placed) (st : State) (r : Rows) → walk today start (tokensOnly p) noRows ≡ go st r
+    → step today st (sortOf (t .token .kind)) r ≡ refuse n → Begins (tokensOnly (p ++ (t ∷ []))) → ⊥
 halted-begins n p t st r w k b =
-    halted 8 start st (tokensOnly p) (t .token) noRows r n w k (rw map-append at (begins-walks (tokensOnly (p ++ (t ∷ []))) b))
+    halted today start st (tokensOnly p) (t .token) noRows r n w k (rw map-append at (begins-walks (tokensOnly (p ++ (t ∷ []))) b))
 
 -- a first part of the tokens of a file
 module _ (file : List ℕ) (words : Sizes) (ps : List Placed) (f : Tokenized file words ps) where
@@ -45,17 +46,17 @@ module _ (file : List ℕ) (words : Sizes) (ps : List Placed) (f : Tokenized fil
   part-small p q e =
       rw length-map (omega (arith, f .small, split-count file ps (f .splits), ap length e, length-append p q))
 
-  pub part-begins : (p q : List Placed) → ps ≡ p ++ q → Walks 8 start (tokensOnly p) noRows → Clean nothing (tokensOnly p) → Begins (tokensOnly p)
+  pub part-begins : (p q : List Placed) → ps ≡ p ++ q → Walks today start (tokensOnly p) noRows → Clean nothing (tokensOnly p) → Begins (tokensOnly p)
   part-begins p q e = walks-begins (tokensOnly p) (part-formed p q e) (part-small p q e)
 
 -- what the grammar accepts has a reading, with its rows
 pub accepted-reading : (file : List ℕ) (words : Sizes) (ps : List Placed) → Tokenized file words ps → (rows : Rows)
-    → run 8 start (tokensOnly ps) noRows ≡ good rows → Clean nothing (tokensOnly ps) → (r : Reading (tokensOnly ps)) × (rows ≡ rowsOf (r .tree))
+    → run today start (tokensOnly ps) noRows ≡ good rows → Clean nothing (tokensOnly ps) → (r : Reading (tokensOnly ps)) × (rows ≡ rowsOf (r .tree))
 accepted-reading file words ps f rows = run-reading (tokensOnly ps) rows (split-well-formed file ps (f .splits))
 
 -- and, in a fair file, room
 pub accepted-fits : (file : List ℕ) (words : Sizes) (ps : List Placed) → Fair file words ps → (rows : Rows)
-    → run 8 start (tokensOnly ps) noRows ≡ good rows → Clean nothing (tokensOnly ps) → fitting words (accepted ps rows) ≡ accepted ps rows
+    → run today start (tokensOnly ps) noRows ≡ good rows → Clean nothing (tokensOnly ps) → fitting words (accepted ps rows) ≡ accepted ps rows
 accepted-fits file words ps f rows e c =
     let r : (r : Reading (tokensOnly ps)) × (rows ≡ rowsOf (r .tree)) = accepted-reading file words ps (f .tokenized) rows e c in
     room-fits words ps rows (rw (r .1) (f .rooms (r .0)))

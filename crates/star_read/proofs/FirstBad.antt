@@ -6,6 +6,7 @@ use Prim.Native.Nat.{ℕ}
 use native.Mathlib.Omega.{arith}
 use lib.ListN.{length}
 use lib.Seq.{append-snoc}
+use Rattle.star_lex.specs.Rules.{today}
 use Rattle.star_lex.specs.Tokens.{Placed, Each}
 use Rattle.star_lex.specs.WellFormed.{WellFormed}
 use Rattle.star_lex.proofs.Cases.{impossible}
@@ -51,9 +52,9 @@ module _ (file : List ℕ) (words : Sizes) (ps : List Placed) (f : Tokenized fil
       let m : 9 ≡ n = cc in
       let h : i ≡ place = cc in
       rw (← m, ← h, l)
-      (Bad.token 9 p t q e (part-begins file words ps f p (t ∷ q) e (walks-first 8 (tokensOnly p) (t .token ∷ []) start noRows w) c) (taken-begins p t k)
+      (Bad.token 9 p t q e (part-begins file words ps f p (t ∷ q) e (walks-first today (tokensOnly p) (t .token ∷ []) start noRows w) c) (taken-begins p t k)
       (NumberAt.taken (taken-no-global (takesAll nothing (tokensOnly p)) (t .token) k)
-      (walks-shape 8 (omega arith) (tokensOnly p ++ (t .token ∷ [])) (formed-at p t q e) w)))
+      (walks-shape today (omega arith) (tokensOnly p ++ (t .token ∷ [])) (formed-at p t q e) w)))
   verdict-bad n place o (Verdict.halts j i p t q e l c st r w k) d =
       let m : j ≡ n = cc in
       let h : i ≡ place = cc in

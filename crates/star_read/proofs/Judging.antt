@@ -9,6 +9,7 @@ use native.Mathlib.Omega.{arith}
 use borrow.Author.Tests.{lt-ltb, le-ltb}
 use lib.ListN.{length, getD}
 use Rattle.star_rows.proofs.Held.{held-word}
+use Rattle.star_lex.specs.Rules.{Rules}
 use Rattle.star_lex.specs.Tokens.{Token, Placed, opening, tokenRow}
 use Rattle.star_lex.specs.Split.{placed, tokensOf}
 use Rattle.star_lex.proofs.Splitting.{row-wide}
@@ -50,7 +51,7 @@ first-byte file words count h n below =
     ∙ ap (λ a. a + length (opening (getD ps n nowhere .token .kind))) (sym (place-in (length file) ps n (omega (arith, h .count-is))))
     ∙ ap (λ k. placeOf (length file) ps n + length (opening k)) (sym kind)
 
-refusal-number : {limit : ℕ} {st : State} {k : _} {r : Rows} {n : ℕ} → Refusal limit st k r n → n ≡ 0 → ⊥
+refusal-number : {rules : Rules} {st : State} {k : _} {r : Rows} {n : ℕ} → Refusal rules st k r n → n ≡ 0 → ⊥
 refusal-number (Refusal.global e) z = omega arith
 refusal-number (Refusal.deep more h s u e) z = omega arith
 refusal-number (Refusal.packet i e) z = omega arith
@@ -61,11 +62,11 @@ end-number (EndRefusal.packet i) z = omega arith
 end-number (EndRefusal.other i) z = omega arith
 
 -- a run that refuses has a number
-pub run-number : (limit : ℕ) (st : State) (ts : List Token) (r : Rows) (n i : ℕ) → run limit st ts r ≡ bad n i → n ≡ 0 → ⊥
-run-number limit st ts r n i e = go (bad-halts limit ts st r n i e)
+pub run-number : (rules : Rules) (st : State) (ts : List Token) (r : Rows) (n i : ℕ) → run rules st ts r ≡ bad n i → n ≡ 0 → ⊥
+run-number rules st ts r n i e = go (bad-halts rules ts st r n i e)
   where
-    go : Halts limit st ts r n i → n ≡ 0 → ⊥
-    go (Halts.token p t q s u a b c d) = refusal-number (refusal limit s _ u n c)
+    go : Halts rules st ts r n i → n ≡ 0 → ⊥
+    go (Halts.token p t q s u a b c d) = refusal-number (refusal rules s _ u n c)
     go (Halts.end s u a b) = end-number (end-refusal s u n i b)
 
 judged-cond : (t : Bool) (x y : Outcome) → judgedOf (cond t x y) ≡ cond t (judgedOf x) (judgedOf y)

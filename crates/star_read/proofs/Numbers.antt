@@ -7,6 +7,7 @@ use Prim.Native.Nat.{ℕ, _+_, _≤_}
 use native.Mathlib.Omega.{arith}
 use borrow.Author.Tests.{eqb-true, eqb-false}
 use lib.Dec.{eqb}
+use Rattle.star_lex.specs.Rules.{today, atLevels}
 use Rattle.star_lex.specs.Tokens.{Token, Each}
 use Rattle.star_lex.specs.WellFormed.{WellFormed}
 use Rattle.star_lex.proofs.Cases.{impossible}
@@ -38,36 +39,36 @@ sort-global t h e = let f : Fixed t = formed-fixed h in rw e at (sort-kind (t .k
 pub taken-no-global : (s : Taken) (t : Token) → isTaken s t ≡ true → t .kind ≡ 12 → ⊥
 taken-no-global s t e k = impossible (cc (other-taken s t (λ q. omega arith) (λ q. omega arith) (λ q. omega arith)))
 
-module _ (p : List Token) (formed : Each WellFormed p) (st : State) (r : Rows) (w : walk 8 start p noRows ≡ go st r) where
+module _ (p : List Token) (formed : Each WellFormed p) (st : State) (r : Rows) (w : walk today start p noRows ≡ go st r) where
   no-name : InPacket st → NoName p
   no-name h x n b =
-      halted 8 start st p x noRows r 10 w (ap (λ k. step 8 st k r) (sort-name x n) ∙ packet-name 8 st r h) (shape-walks 8 (p ++ (x ∷ [])) b)
+      halted today start st p x noRows r 10 w (ap (λ k. step today st k r) (sort-name x n) ∙ packet-name today st r h) (shape-walks today (p ++ (x ∷ [])) b)
 
   value-since : InPacket st → ValueSince p
-  value-since h = marks-since p (each-fixed p formed) (packet-marked st (marks false p) h (walk-marked 8 start st p noRows r false w refl))
+  value-since h = marks-since p (each-fixed p formed) (packet-marked st (marks false p) h (walk-marked today start st p noRows r false w refl))
 
   -- after a token of this kind a file may go on
-  goes-on : (limit : ℕ) → 8 ≤ limit → (t : Token) → WellFormed t → (s : State) (u : Rows) → step limit st (sortOf (t .kind)) r ≡ go s u
-      → BeginsShape limit (p ++ (t ∷ []))
+  goes-on : (limit : ℕ) → today .levels ≤ limit → (t : Token) → WellFormed t → (s : State) (u : Rows)
+      → step (atLevels today limit) st (sortOf (t .kind)) r ≡ go s u → BeginsShape (atLevels today limit) (p ++ (t ∷ []))
   goes-on limit l t h s u e =
-      walks-shape limit (omega arith) (p ++ (t ∷ [])) (each-append WellFormed p (t ∷ []) .1 (formed, (h, tt)))
-      (s, u, walk-step limit start st p t noRows r s u (walk-limit 8 limit l start st p noRows r w) e)
+      walks-shape (atLevels today limit) (omega arith) (p ++ (t ∷ [])) (each-append WellFormed p (t ∷ []) .1 (formed, (h, tt)))
+      (s, u, walk-step (atLevels today limit) start st p t noRows r s u (walk-limit today limit l start st p noRows r w) e)
 
   outside-packet : (InPacket st → ⊥) → ValueSince p → NoName p → ⊥
   outside-packet h v n = at (outside st h)
     where
       at : Outside st → ⊥
       at (Outside.valueless f) =
-          let a : marks false p ≡ false = f (marks false p) (walk-marked 8 start st p noRows r false w refl) in
+          let a : marks false p ≡ false = f (marks false p) (walk-marked today start st p noRows r false w refl) in
           let b : marks false p ≡ true = since-marks p (each-fixed p formed) v in
           impossible cc
       at (Outside.nameable f) =
           let x : (x : List ℕ) × WellFormed (record { kind = 6; content = x }) × (List·Memᴰ x [] → ⊥)
           = fresh-name-of 1 [] (omega arith) (omega arith) (omega arith) in
           let t : Token = record { kind = 6; content = x .0 } in
-          let g : (s : State) × (u : Rows) × (step 8 st Sort.name r ≡ go s u) = f 8 r in
+          let g : (s : State) × (u : Rows) × (step today st Sort.name r ≡ go s u) = f today r in
           n t (record { kind6 = refl })
-          (goes-on 8 (omega arith) t (x .1) (g .0) (g .1) (ap (λ k. step 8 st k r) (sort-name t (record { kind6 = refl })) ∙ g .2))
+          (goes-on (today .levels) (omega arith) t (x .1) (g .0) (g .1) (ap (λ k. step today st k r) (sort-name t (record { kind6 = refl })) ∙ g .2))
 
   pub number-end : (n i : ℕ) → endRun st r ≡ bad n i → NumberAtEnd p n
   number-end n i e = at (end-refusal st r n i e)
@@ -77,33 +78,33 @@ module _ (p : List Token) (formed : Each WellFormed p) (st : State) (r : Rows) (
       at (EndRefusal.other h) = NumberAtEnd.other (outside-packet h)
 
   module _ (t : Token) (h : WellFormed t) where
-    -- a step that no limit takes
-    never : (m : ℕ) → ((l : ℕ) → step l st (sortOf (t .kind)) r ≡ refuse m) → (limit : ℕ) → BeginsShape limit (p ++ (t ∷ [])) → ⊥
+    -- a step that no number of levels takes
+    never : (m : ℕ) → ((l : ℕ) → step (atLevels today l) st (sortOf (t .kind)) r ≡ refuse m) → (limit : ℕ) → BeginsShape (atLevels today limit) (p ++ (t ∷ [])) → ⊥
     never m f limit b =
-        halted (limit + 8) start st p t noRows r m (walk-limit 8 (limit + 8) (omega arith) start st p noRows r w) (f (limit + 8))
-        (walks-limit limit (limit + 8) (omega arith) start (p ++ (t ∷ [])) noRows (shape-walks limit (p ++ (t ∷ [])) b))
+        halted (atLevels today (limit + today .levels)) start st p t noRows r m (walk-limit today (limit + today .levels) (omega arith) start st p noRows r w) (f (limit + today .levels))
+        (walks-limit (atLevels today limit) (limit + today .levels) (omega arith) start (p ++ (t ∷ [])) noRows (shape-walks (atLevels today limit) (p ++ (t ∷ [])) b))
 
-    number-of : (t .kind ≡ 12 → ⊥) → (n : ℕ) → step 8 st (sortOf (t .kind)) r ≡ refuse n → Refusal 8 st (sortOf (t .kind)) r n → NumberAt p t n
+    number-of : (t .kind ≡ 12 → ⊥) → (n : ℕ) → step today st (sortOf (t .kind)) r ≡ refuse n → Refusal today st (sortOf (t .kind)) r n → NumberAt p t n
     number-of k n e (Refusal.global g) = absurd (k (sort-global t h g))
     number-of k n e (Refusal.deep more l s u g) =
-        NumberAt.deep k (λ b. halted 8 start st p t noRows r 11 w e (shape-walks 8 (p ++ (t ∷ [])) b)) more (goes-on more l t h s u g)
+        NumberAt.deep k (λ b. halted today start st p t noRows r 11 w e (shape-walks today (p ++ (t ∷ [])) b)) more (goes-on more l t h s u g)
     number-of k n e (Refusal.packet i f) = NumberAt.packet k (never 10 f) (value-since i) (no-name i)
     number-of k n e (Refusal.other i f) = NumberAt.other k (never 8 f) (outside-packet i)
 
     -- `global_` before all others
-    number-global : (n : ℕ) → t .kind ≡ 12 → step 8 st (sortOf (t .kind)) r ≡ refuse n → NumberAt p t n
+    number-global : (n : ℕ) → t .kind ≡ 12 → step today st (sortOf (t .kind)) r ≡ refuse n → NumberAt p t n
     number-global n k e =
-        let d : refuse 12 ≡ refuse n = sym (global-refused 8 st r) ∙ ap (λ s. step 8 st s r) (sym global-sort ∙ ap sortOf (sym k)) ∙ e in
+        let d : refuse 12 ≡ refuse n = sym (global-refused today st r) ∙ ap (λ s. step today st s r) (sym global-sort ∙ ap sortOf (sym k)) ∙ e in
         let m : 12 ≡ n = cc in
         let g : NumberAt p t 12 = NumberAt.global k in
         rw m at g
 
-    pub number-token : (n : ℕ) → step 8 st (sortOf (t .kind)) r ≡ refuse n → NumberAt p t n
+    pub number-token : (n : ℕ) → step today st (sortOf (t .kind)) r ≡ refuse n → NumberAt p t n
     number-token n e = at (eqb (t .kind) 12) refl
       where
         at : (b : Bool) → eqb (t .kind) 12 ≡ b → NumberAt p t n
         at true d = number-global n (eqb-true (t .kind) 12 d) e
-        at false d = number-of (eqb-false (t .kind) 12 d) n e (refusal 8 st (sortOf (t .kind)) r n e)
+        at false d = number-of (eqb-false (t .kind) 12 d) n e (refusal today st (sortOf (t .kind)) r n e)
 
 -- the numbers exclude one another
 pub numbers-exclude : {p : List Token} {t : Token} {m n : ℕ} → NumberAt p t m → NumberAt p t n → m ≡ n
@@ -115,20 +116,20 @@ numbers-exclude (NumberAt.global k) (NumberAt.other k′ f′ o′) = absurd (k�
 numbers-exclude (NumberAt.taken k b) (NumberAt.global k′) = absurd (k k′)
 numbers-exclude (NumberAt.taken k b) (NumberAt.taken k′ b′) = refl
 numbers-exclude (NumberAt.taken k b) (NumberAt.deep k′ f′ l′ b′) = absurd (f′ b)
-numbers-exclude (NumberAt.taken k b) (NumberAt.packet k′ f′ v′ w′) = absurd (f′ 8 b)
-numbers-exclude (NumberAt.taken k b) (NumberAt.other k′ f′ o′) = absurd (f′ 8 b)
+numbers-exclude (NumberAt.taken k b) (NumberAt.packet k′ f′ v′ w′) = absurd (f′ (today .levels) b)
+numbers-exclude (NumberAt.taken k b) (NumberAt.other k′ f′ o′) = absurd (f′ (today .levels) b)
 numbers-exclude (NumberAt.deep k f l b) (NumberAt.global k′) = absurd (k k′)
 numbers-exclude (NumberAt.deep k f l b) (NumberAt.taken k′ b′) = absurd (f b′)
 numbers-exclude (NumberAt.deep k f l b) (NumberAt.deep k′ f′ l′ b′) = refl
 numbers-exclude (NumberAt.deep k f l b) (NumberAt.packet k′ f′ v′ w′) = absurd (f′ l b)
 numbers-exclude (NumberAt.deep k f l b) (NumberAt.other k′ f′ o′) = absurd (f′ l b)
 numbers-exclude (NumberAt.packet k f v w) (NumberAt.global k′) = absurd (k k′)
-numbers-exclude (NumberAt.packet k f v w) (NumberAt.taken k′ b′) = absurd (f 8 b′)
+numbers-exclude (NumberAt.packet k f v w) (NumberAt.taken k′ b′) = absurd (f (today .levels) b′)
 numbers-exclude (NumberAt.packet k f v w) (NumberAt.deep k′ f′ l′ b′) = absurd (f l′ b′)
 numbers-exclude (NumberAt.packet k f v w) (NumberAt.packet k′ f′ v′ w′) = refl
 numbers-exclude (NumberAt.packet k f v w) (NumberAt.other k′ f′ o′) = absurd (o′ v w)
 numbers-exclude (NumberAt.other k f o) (NumberAt.global k′) = absurd (k k′)
-numbers-exclude (NumberAt.other k f o) (NumberAt.taken k′ b′) = absurd (f 8 b′)
+numbers-exclude (NumberAt.other k f o) (NumberAt.taken k′ b′) = absurd (f (today .levels) b′)
 numbers-exclude (NumberAt.other k f o) (NumberAt.deep k′ f′ l′ b′) = absurd (f l′ b′)
 numbers-exclude (NumberAt.other k f o) (NumberAt.packet k′ f′ v′ w′) = absurd (o v′ w′)
 numbers-exclude (NumberAt.other k f o) (NumberAt.other k′ f′ o′) = refl

@@ -4,9 +4,10 @@ use mathlib.Core.Path.{_≡_}
 use mathlib.Core.List.{List}
 use Prim.Native.Nat.{ℕ}
 use native.Mathlib.Omega.{arith}
+use Rattle.star_lex.specs.Rules.{Rules, today}
 use Rattle.star_lex.specs.Tokens.{Token, Each}
 use Rattle.star_lex.specs.WellFormed.{WellFormed}
-use Rattle.star_grammar.specs.Tree.{File, fileYield, FileWhole}
+use Rattle.star_grammar.specs.Tree.{File, fileYield, FileBy}
 use Rattle.star_grammar.specs.Tables.{Rows, noRows, rowsOf}
 use Rattle.star_grammar.specs.Reading.{Reading}
 use Rattle.star_grammar.specs.Machine.{start, good, run}
@@ -17,17 +18,17 @@ use Rattle.star_unique.specs.Repeat.{nothing}
 use Rattle.star_unique.proofs.Clean.{Clean, clean-repeat, repeat-clean}
 use Rattle.star_unique.proofs.Repeats.{repeat-distinct}
 
-pub yield-run : (limit : ℕ) (f : File) (ts : List Token) → fileYield f ≡ ts → FileWhole limit f → run limit start ts noRows ≡ good (rowsOf f)
-yield-run limit f ts e w = rw e at (complete limit f w)
+pub yield-run : (rules : Rules) (f : File) (ts : List Token) → fileYield f ≡ ts → FileBy rules f → run rules start ts noRows ≡ good (rowsOf f)
+yield-run rules f ts e w = rw e at (complete rules f w)
 
-pub reading-run : (ts : List Token) (r : Reading ts) → run 8 start ts noRows ≡ good (rowsOf (r .tree))
-reading-run ts r = yield-run 8 (r .tree) ts (r .yield) (r .whole)
+pub reading-run : (ts : List Token) (r : Reading ts) → run today start ts noRows ≡ good (rowsOf (r .tree))
+reading-run ts r = yield-run today (r .tree) ts (r .yield) (r .whole)
 
 pub reading-clean : (ts : List Token) → Reading ts → Clean nothing ts
 reading-clean ts r = rw (r .yield) at (repeat-clean nothing (fileYield (r .tree)) (repeat-distinct 8 (r .tree) (r .whole) .0 (r .distinct)))
 
 -- a whole tree of tokens that repeat nothing
-pub tree-reading : (ts : List Token) (f : File) → fileYield f ≡ ts → FileWhole 8 f → Clean nothing ts → Reading ts
+pub tree-reading : (ts : List Token) (f : File) → fileYield f ≡ ts → FileBy today f → Clean nothing ts → Reading ts
 tree-reading ts f e w c = record {
   tree = f;
   yield = e;
@@ -35,9 +36,9 @@ tree-reading ts f e w c = record {
   distinct = repeat-distinct 8 f w .1 (clean-repeat nothing (fileYield f) (rw e c));
 }
 
-pub run-reading : (ts : List Token) (rows : Rows) → Each WellFormed ts → run 8 start ts noRows ≡ good rows → Clean nothing ts
+pub run-reading : (ts : List Token) (rows : Rows) → Each WellFormed ts → run today start ts noRows ≡ good rows → Clean nothing ts
     → (r : Reading ts) × (rows ≡ rowsOf (r .tree))
 unfolding tree-reading
 run-reading ts rows h e c =
-    let s : (f : File) × (fileYield f ≡ ts) × FileWhole 8 f × (rows ≡ rowsOf f) = rows-of-run 8 (omega arith) ts (each-fixed ts h) rows e in
+    let s : (f : File) × (fileYield f ≡ ts) × FileBy today f × (rows ≡ rowsOf f) = rows-of-run today (omega arith) ts (each-fixed ts h) rows e in
     (tree-reading ts (s .0) (s .1) (s .2) c, s .3)

@@ -10,6 +10,7 @@ use lib.ListN.{length}
 use Rattle.star_rows.specs.Widths.{setWidth, nameWidth, packetWidth, valueWidth}
 use Rattle.star_rows.specs.Rows.{holding, clearedFrom}
 use Rattle.star_rows.proofs.Stored.{stored-holding}
+use Rattle.star_lex.specs.Rules.{today}
 use Rattle.star_lex.specs.Tokens.{Placed, tokenRow}
 use Rattle.star_lex.specs.Split.{placed, tokensOf}
 use Rattle.star_grammar.specs.Tables.{Rows, noRows, setWords, nameWords, packetWords, valueWords}
@@ -108,13 +109,13 @@ answer-ran (good rows) count before after r a = (a .refusal, a .tokens, a .sets,
 
 -- the run over the kinds of a table that holds a file's tokens is the run over the tokens
 pub held-run : (file table : List ℕ) (count : ℕ) → Holds file table count
-    → rowsRun count table ≡ run 8 start (fileTokens file) noRows
+    → rowsRun count table ≡ run today start (fileTokens file) noRows
 held-run file table count h =
     let ps : List Placed = placed (tokensOf file) in
     rows-run count table (omega (arith, h .room, h .count-is)) (count-small file table count h)
-    ∙ ap (λ n. run 8 start (kindTokens n table) noRows) (h .count-is)
-    ∙ ap (λ t. run 8 start (kindTokens (length ps) t) noRows) (h .rows)
-    ∙ run-holding 8 start ps (length table) noRows
+    ∙ ap (λ n. run today start (kindTokens n table) noRows) (h .count-is)
+    ∙ ap (λ t. run today start (kindTokens (length ps) t) noRows) (h .rows)
+    ∙ run-holding today start ps (length table) noRows
 
 -- the tables 2 to 5 keep their lengths
 pub record SameSizes (before after : FourTables) : Type 0 where
@@ -132,7 +133,7 @@ same-words n before after k = rw (k .sets, k .names, k .packets, k .values)
 module _ (file table : List ℕ) (count : ℕ) (h : Holds file table count) (before mid : FourTables) (k : SameSizes before mid) (r : Parsed)
     (a : Answers count (rowsRun count table) before r mid) (j : Judged)
     (e : j ≡ judgedOf (fitting (sizesOf (length table) mid) (grammarOf (length file) (placed (tokensOf file))))) where
-  answers : Answers count (run 8 start (fileTokens file) noRows) before r mid
+  answers : Answers count (run today start (fileTokens file) noRows) before r mid
   answers = subst (λ x. Answers count x before r mid) (held-run file table count h) a
 
   judged-before : j ≡ judgedOf (fitting (sizesOf (length table) before) (grammarOf (length file) (placed (tokensOf file))))
@@ -143,12 +144,12 @@ module _ (file table : List ℕ) (count : ℕ) (h : Holds file table count) (bef
   outcome-refused f = judged-refused _ j judged-before f
 
   pub outcome-settled : j .refusal ≡ 0
-      → Settled (sizesOf (length table) before) (length file) (placed (tokensOf file)) (firstRepeat nothing (fileTokens file)) (run 8 start (fileTokens file) noRows)
+      → Settled (sizesOf (length table) before) (length file) (placed (tokensOf file)) (firstRepeat nothing (fileTokens file)) (run today start (fileTokens file) noRows)
   unfolding grammarOf
   outcome-settled z =
-      settled _ _ _ _ _ (run-number 8 start (fileTokens file) noRows) (sym (ap (λ g. g .refusal) judged-before) ∙ z)
+      settled _ _ _ _ _ (run-number today start (fileTokens file) noRows) (sym (ap (λ g. g .refusal) judged-before) ∙ z)
 
-  pub rows-accepted : (rows : Rows) → run 8 start (fileTokens file) noRows ≡ good rows → Accepted count rows before r mid
+  pub rows-accepted : (rows : Rows) → run today start (fileTokens file) noRows ≡ good rows → Accepted count rows before r mid
   rows-accepted rows g = subst (λ x. Answers count x before r mid) g answers
 
 -- tables that a refusal has cleared

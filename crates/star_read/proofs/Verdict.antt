@@ -9,6 +9,7 @@ use borrow.Author.Tests.{ltb-true, ltb-false}
 use lib.Dec.{ltb}
 use lib.ListN.{length, length-map}
 use lib.Seq.{append-snoc}
+use Rattle.star_lex.specs.Rules.{today}
 use Rattle.star_lex.specs.Tokens.{Token, Placed}
 use Rattle.star_lex.proofs.Cases.{impossible}
 use Rattle.star_grammar.specs.Tables.{Rows, noRows}
@@ -22,15 +23,15 @@ use Rattle.star_unique.proofs.First.{FirstTaken, first-taken, clean-before}
 use Rattle.star_read.specs.Read.{Outcome, refused, accepted, tokensOnly, placeOf, decide, grammarOf}
 
 pub data Verdict (ps : List Placed) (size : ℕ) : Outcome → Type 0 where
-  reads : (rows : Rows) → run 8 start (tokensOnly ps) noRows ≡ good rows → Clean nothing (tokensOnly ps) → Verdict ps size (accepted ps rows)
+  reads : (rows : Rows) → run today start (tokensOnly ps) noRows ≡ good rows → Clean nothing (tokensOnly ps) → Verdict ps size (accepted ps rows)
   repeats : (place : ℕ) (p : List Placed) (t : Placed) (q : List Placed) → ps ≡ p ++ (t ∷ q) → place ≡ t .at → Clean nothing (tokensOnly p)
-      → Walks 8 start (tokensOnly p ++ (t .token ∷ [])) noRows → isTaken (takesAll nothing (tokensOnly p)) (t .token) ≡ true
+      → Walks today start (tokensOnly p ++ (t .token ∷ [])) noRows → isTaken (takesAll nothing (tokensOnly p)) (t .token) ≡ true
       → Verdict ps size (refused 9 place)
   halts : (n place : ℕ) (p : List Placed) (t : Placed) (q : List Placed) → ps ≡ p ++ (t ∷ q) → place ≡ t .at → Clean nothing (tokensOnly p)
-      → (st : State) (r : Rows) → walk 8 start (tokensOnly p) noRows ≡ go st r → step 8 st (sortOf (t .token .kind)) r ≡ refuse n
+      → (st : State) (r : Rows) → walk today start (tokensOnly p) noRows ≡ go st r → step today st (sortOf (t .token .kind)) r ≡ refuse n
       → Verdict ps size (refused n place)
   ends : (n place i : ℕ) → place ≡ size → Clean nothing (tokensOnly ps)
-      → (st : State) (r : Rows) → walk 8 start (tokensOnly ps) noRows ≡ go st r → endRun st r ≡ bad n i → Verdict ps size (refused n place)
+      → (st : State) (r : Rows) → walk today start (tokensOnly ps) noRows ≡ go st r → endRun st r ≡ bad n i → Verdict ps size (refused n place)
 
 place-at : (size : ℕ) (p : List Placed) (t : Placed) (q : List Placed) → placeOf size (p ++ (t ∷ q)) (length p) ≡ t .at
 unfolding placeOf
@@ -72,15 +73,15 @@ module _ (ps : List Placed) (size : ℕ) where
   at-place a b k i e = rw (e, k .tokens, length-map, k .is) (place-at size (k .before) (k .here) (k .after))
 
   -- the first token of a walk that repeats
-  verdict-taken : (p : List Token) → Walks 8 start p noRows → (f : FirstTaken nothing p) → At ps (f .before) (f .token) → (i : ℕ)
+  verdict-taken : (p : List Token) → Walks today start p noRows → (f : FirstTaken nothing p) → At ps (f .before) (f .token) → (i : ℕ)
       → i ≡ length (f .before) → Verdict ps size (refused 9 (placeOf size ps i))
   verdict-taken p w f k i e =
       Verdict.repeats (placeOf size ps i) (k .before) (k .here) (k .after) (k .is) (at-place (f .before) (f .token) k i e) (rw (k .tokens) at (f .clean))
-      (rw (k .tokens, k .token) at (walks-first 8 (f .before ++ (f .token ∷ [])) (f .after) start noRows
+      (rw (k .tokens, k .token) at (walks-first today (f .before ++ (f .token ∷ [])) (f .after) start noRows
       (rw (f .is ∙ sym (append-snoc (f .before) (f .token) (f .after))) at w)))
       (rw (k .tokens, k .token) at (f .taken))
 
-  verdict-repeats : (p q : List Token) → tokensOnly ps ≡ p ++ q → Walks 8 start p noRows → firstRepeat nothing (tokensOnly ps) < length p
+  verdict-repeats : (p q : List Token) → tokensOnly ps ≡ p ++ q → Walks today start p noRows → firstRepeat nothing (tokensOnly ps) < length p
       → Verdict ps size (refused 9 (placeOf size ps (firstRepeat nothing (tokensOnly ps))))
   verdict-repeats p q e w h =
       let same : firstRepeat nothing (tokensOnly ps) ≡ firstRepeat nothing (p ++ q) = ap (firstRepeat nothing) e in
@@ -93,7 +94,7 @@ module _ (ps : List Placed) (size : ℕ) where
   verdict-clean : (p q : List Token) → tokensOnly ps ≡ p ++ q → length p ≤ firstRepeat nothing (tokensOnly ps) → Clean nothing p
   verdict-clean p q e h = clean-before nothing p q (rw e at h)
 
-  verdict-good : (rows : Rows) → run 8 start (tokensOnly ps) noRows ≡ good rows
+  verdict-good : (rows : Rows) → run today start (tokensOnly ps) noRows ≡ good rows
       → Verdict ps size (decide size ps (firstRepeat nothing (tokensOnly ps)) (good rows))
   unfolding decide
   verdict-good rows e = by (ltb (firstRepeat nothing (tokensOnly ps)) (length ps)) refl
@@ -101,27 +102,27 @@ module _ (ps : List Placed) (size : ℕ) where
       by : (b : Bool) → ltb (firstRepeat nothing (tokensOnly ps)) (length ps) ≡ b
           → Verdict ps size (cond b (refused 9 (placeOf size ps (firstRepeat nothing (tokensOnly ps)))) (accepted ps rows))
       by true d =
-          verdict-repeats (tokensOnly ps) [] (sym (append-nil (tokensOnly ps))) (good-walks 8 (tokensOnly ps) start noRows rows e)
+          verdict-repeats (tokensOnly ps) [] (sym (append-nil (tokensOnly ps))) (good-walks today (tokensOnly ps) start noRows rows e)
           (rw length-map (ltb-true _ _ d))
       by false d =
           Verdict.reads rows e (verdict-clean (tokensOnly ps) [] (sym (append-nil (tokensOnly ps))) (rw length-map (ltb-false _ _ d)))
 
-  verdict-bad : (n i : ℕ) → Halts 8 start (tokensOnly ps) noRows n i
+  verdict-bad : (n i : ℕ) → Halts today start (tokensOnly ps) noRows n i
       → Verdict ps size (decide size ps (firstRepeat nothing (tokensOnly ps)) (bad n i))
   unfolding decide
   verdict-bad n i (Halts.token p t q s u e w f c) = by (ltb (firstRepeat nothing (tokensOnly ps)) i) refl (token-at ps p t q e)
     where
       by : (b : Bool) → ltb (firstRepeat nothing (tokensOnly ps)) i ≡ b → At ps p t
           → Verdict ps size (cond b (refused 9 (placeOf size ps (firstRepeat nothing (tokensOnly ps)))) (refused n (placeOf size ps i)))
-      by true d k = verdict-repeats p (t ∷ q) e (s, u, w) (omega (arith, ltb-true, walk-length 8 s p u w))
+      by true d k = verdict-repeats p (t ∷ q) e (s, u, w) (omega (arith, ltb-true, walk-length today s p u w))
       by false d k =
-          Verdict.halts n (placeOf size ps i) (k .before) (k .here) (k .after) (k .is) (at-place p t k i (c ∙ walk-length 8 s p u w))
-          (rw (k .tokens) at (verdict-clean p (t ∷ q) e (omega (arith, ltb-false, walk-length 8 s p u w)))) s u
+          Verdict.halts n (placeOf size ps i) (k .before) (k .here) (k .after) (k .is) (at-place p t k i (c ∙ walk-length today s p u w))
+          (rw (k .tokens) at (verdict-clean p (t ∷ q) e (omega (arith, ltb-false, walk-length today s p u w)))) s u
           (rw (k .tokens) at w) (rw (k .token) at f)
   verdict-bad n i (Halts.end s u w f) = by (ltb (firstRepeat nothing (tokensOnly ps)) i) refl
     where
       whole : i ≡ length ps
-      whole = end-passes s u n i f ∙ walk-length 8 s (tokensOnly ps) u w ∙ length-map ps _
+      whole = end-passes s u n i f ∙ walk-length today s (tokensOnly ps) u w ∙ length-map ps _
 
       by : (b : Bool) → ltb (firstRepeat nothing (tokensOnly ps)) i ≡ b
           → Verdict ps size (cond b (refused 9 (placeOf size ps (firstRepeat nothing (tokensOnly ps)))) (refused n (placeOf size ps i)))
@@ -133,8 +134,8 @@ module _ (ps : List Placed) (size : ℕ) where
 
   pub verdict : Verdict ps size (grammarOf size ps)
   unfolding grammarOf
-  verdict = by (run 8 start (tokensOnly ps) noRows) refl
+  verdict = by (run today start (tokensOnly ps) noRows) refl
     where
-      by : (x : Run) → run 8 start (tokensOnly ps) noRows ≡ x → Verdict ps size (decide size ps (firstRepeat nothing (tokensOnly ps)) x)
-      by (bad n i) e = verdict-bad n i (bad-halts 8 (tokensOnly ps) start noRows n i e)
+      by : (x : Run) → run today start (tokensOnly ps) noRows ≡ x → Verdict ps size (decide size ps (firstRepeat nothing (tokensOnly ps)) x)
+      by (bad n i) e = verdict-bad n i (bad-halts today (tokensOnly ps) start noRows n i e)
       by (good rows) e = verdict-good rows e

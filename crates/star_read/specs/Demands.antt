@@ -6,10 +6,11 @@ use Prim.Native.Nat.{ℕ, _*_, _≤_, _<_}
 use lib.ListN.{length}
 use Rattle.star_rows.specs.Widths.{tokenWidth, setWidth, nameWidth, packetWidth, valueWidth}
 use Rattle.star_text.specs.Bytes.{mostBytes}
+use Rattle.star_lex.specs.Rules.{Rules, today, atLevels}
 use Rattle.star_lex.specs.Tokens.{Token, Placed, Each}
 use Rattle.star_lex.specs.Split.{tokensOf}
 use Rattle.star_lex.specs.Split as Split
-use Rattle.star_grammar.specs.Tree.{File, fileYield, FileWhole, IsName, IsValue}
+use Rattle.star_grammar.specs.Tree.{File, fileYield, FileBy, IsName, IsValue}
 use Rattle.star_grammar.specs.Tables.{Rows, rowsOf}
 use Rattle.star_grammar.specs.Reading.{Reading}
 use Rattle.star_read.specs.Answer.{answerOf, Tables, zeroTables, tablesOf}
@@ -69,14 +70,14 @@ abbrev pub PlaceOfRefusal : Type 0
 PlaceOfRefusal = (file : List ℕ) (words : Sizes) (ps : List Placed) → Fair file words ps
     → (n place : ℕ) → readOf file words ≡ refused n place → FirstBad file ps place
 
--- the same with nothing to be unique, and at most so many levels
-pub record BeginsShape (limit : ℕ) (p : List Token) : Type 0 where
+-- the same by the rules, with nothing to be unique
+pub record BeginsShape (rules : Rules) (p : List Token) : Type 0 where
   pub file : List ℕ
   pub tokens : List Placed
   pub splits : tokensOf file ≡ Split.accepted tokens
   pub tree : File
   pub yield : fileYield tree ≡ tokensOnly tokens
-  pub whole : FileWhole limit tree
+  pub whole : FileBy rules tree
   pub rest : List Token
   pub starts : tokensOnly tokens ≡ p ++ rest
 
@@ -92,15 +93,15 @@ pub record ValueSince (p : List Token) : Type 0 where
 
 -- no name at all may come next
 abbrev pub NoName : List Token → Type 0
-NoName p = (x : Token) → IsName x → BeginsShape 8 (p ++ (x ∷ [])) → ⊥
+NoName p = (x : Token) → IsName x → BeginsShape today (p ++ (x ∷ [])) → ⊥
 
 -- the number of refusal of a token after a row that begins a file, which it does not with the token
 pub data NumberAt (p : List Token) (t : Token) : ℕ → Type 0 where
   global : t .kind ≡ 12 → NumberAt p t 12
-  taken : (t .kind ≡ 12 → ⊥) → BeginsShape 8 (p ++ (t ∷ [])) → NumberAt p t 9
-  deep : (t .kind ≡ 12 → ⊥) → (BeginsShape 8 (p ++ (t ∷ [])) → ⊥) → (limit : ℕ) → BeginsShape limit (p ++ (t ∷ [])) → NumberAt p t 11
-  packet : (t .kind ≡ 12 → ⊥) → ((limit : ℕ) → BeginsShape limit (p ++ (t ∷ [])) → ⊥) → ValueSince p → NoName p → NumberAt p t 10
-  other : (t .kind ≡ 12 → ⊥) → ((limit : ℕ) → BeginsShape limit (p ++ (t ∷ [])) → ⊥) → (ValueSince p → NoName p → ⊥) → NumberAt p t 8
+  taken : (t .kind ≡ 12 → ⊥) → BeginsShape today (p ++ (t ∷ [])) → NumberAt p t 9
+  deep : (t .kind ≡ 12 → ⊥) → (BeginsShape today (p ++ (t ∷ [])) → ⊥) → (limit : ℕ) → BeginsShape (atLevels today limit) (p ++ (t ∷ [])) → NumberAt p t 11
+  packet : (t .kind ≡ 12 → ⊥) → ((limit : ℕ) → BeginsShape (atLevels today limit) (p ++ (t ∷ [])) → ⊥) → ValueSince p → NoName p → NumberAt p t 10
+  other : (t .kind ≡ 12 → ⊥) → ((limit : ℕ) → BeginsShape (atLevels today limit) (p ++ (t ∷ [])) → ⊥) → (ValueSince p → NoName p → ⊥) → NumberAt p t 8
 
 -- the number of refusal at the end of a row that begins a file
 pub data NumberAtEnd (p : List Token) : ℕ → Type 0 where

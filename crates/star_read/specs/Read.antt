@@ -6,6 +6,7 @@ use Prim.Native.Nat.{ℕ, zero, suc, _*_}
 use lib.Dec.{ltb}
 use lib.ListN.{length}
 use Rattle.star_rows.specs.Widths.{setWidth, nameWidth, packetWidth, valueWidth}
+use Rattle.star_lex.specs.Rules.{today}
 use Rattle.star_lex.specs.Tokens.{Token, Placed}
 use Rattle.star_lex.specs.Split.{Split}
 use Rattle.star_lex.specs.Split as Split
@@ -42,7 +43,7 @@ decide size ps taken (bad n i) = cond (ltb taken i) (refused 9 (placeOf size ps 
 decide size ps taken (good rows) = cond (ltb taken (length ps)) (refused 9 (placeOf size ps taken)) (accepted ps rows)
 
 unfoldable pub grammarOf : (size : ℕ) → List Placed → Outcome
-grammarOf size ps = decide size ps (firstRepeat nothing (tokensOnly ps)) (run 8 start (tokensOnly ps) noRows)
+grammarOf size ps = decide size ps (firstRepeat nothing (tokensOnly ps)) (run today start (tokensOnly ps) noRows)
 
 -- last, 7 for tables 2 to 5, the lowest number first
 unfoldable pub fitting : Sizes → Outcome → Outcome

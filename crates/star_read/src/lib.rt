@@ -1,6 +1,7 @@
 // Reading a STAR File from lent bytes into five lent tables.
 ghost use mathlib.Core.Path.{_≡_};
 ghost use lib.ListN.{length};
+ghost use Rattle.star_lex.specs.Rules.{today};
 ghost use Rattle.star_lex.specs.Split.{placed, tokensOf};
 ghost use Rattle.star_grammar.specs.Tables.{noRows};
 ghost use Rattle.star_grammar.specs.Machine.{run, start};
@@ -91,7 +92,7 @@ fn judge(
 ) -> Judged
     requires { ⌜ Holds (now file) (now tokens) count ⌝ }
     requires { ⌜ taken ≡ firstRepeat nothing (fileTokens (now file)) ⌝ }
-    requires { ⌜ Ran (run 8 start (fileTokens (now file)) noRows) count rows ⌝ }
+    requires { ⌜ Ran (run today start (fileTokens (now file)) noRows) count rows ⌝ }
     ensures { λ r. ⌜ r ≡ judgedOf (fitting (words (length (now (tokens .entry))) sets names packets values)
         (grammarOf (length (now (file .entry))) (placed (tokensOf (now (file .entry)))))) ⌝ }
 {

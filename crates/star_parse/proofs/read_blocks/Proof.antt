@@ -3,6 +3,7 @@ use mathlib.Core.Path.{_≡_, refl, sym, ap, _∙_}
 use Prim.Native.Nat.{_-_}
 use native.Mathlib.Omega.{arith}
 use lib.ListN.{length, drop}
+use Rattle.star_lex.specs.Rules.{today}
 use Rattle.star_grammar.specs.Tables.{noRows}
 use Rattle.star_grammar.specs.Machine.{start, run}
 use Rattle.star_parse.specs.Parsed.{kindTokens, tables}
@@ -17,7 +18,7 @@ use Rattle.star_parse.proofs.read_blocks.Tie as tie
 abbrev Inv-loop : tie.InvT-loop
 Inv-loop tokens count sets₀ names₀ packets₀ values₀ p₀ sets names packets values p =
     Bounds count tokens p × (length sets ≡ length sets₀) × (length names ≡ length names₀) × (length packets ≡ length packets₀) × (length values ≡ length values₀)
-    × Comes (kindTokens count tokens) (tables sets₀ names₀ packets₀ values₀) (run 8 start (kindTokens count tokens) noRows) start p
+    × Comes (kindTokens count tokens) (tables sets₀ names₀ packets₀ values₀) (run today start (kindTokens count tokens) noRows) start p
     (tables sets names packets values)
 
 abbrev μ-loop : tie.MeasureT-loop
@@ -38,7 +39,7 @@ loop-holds c =
       comes _ _ _ (f .refusal) (record {
         rows = noRows;
         matches = matches-none _ _ f;
-        left = ap (λ n. run 8 start (drop n (kindTokens (s .args .count) (s .args .tokens .now))) noRows) (f .at);
+        left = ap (λ n. run today start (drop n (kindTokens (s .args .count) (s .args .tokens .now))) noRows) (f .at);
       }),
     )
 

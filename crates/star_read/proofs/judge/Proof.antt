@@ -3,6 +3,7 @@ use mathlib.Core.Path.{sym, _∙_, ap, subst}
 use Prim.Native.Nat.{ℕ}
 use borrow.Author.Needs.{needs}
 use lib.ListN.{length}
+use Rattle.star_lex.specs.Rules.{today}
 use Rattle.star_lex.specs.Split.{placed, tokensOf}
 use Rattle.star_grammar.specs.Tables.{noRows}
 use Rattle.star_grammar.specs.Machine.{Run, run, start}
@@ -25,7 +26,7 @@ sizes c = words (length (c .args .tokens .now)) (c .args .sets) (c .args .names)
 
 -- the run over the file's tokens, and its answer
 abbrev ran : tie.Start → Run
-ran c = run 8 start (fileTokens (c .args .file .now)) noRows
+ran c = run today start (fileTokens (c .args .file .now)) noRows
 
 has-run : (c : tie.Start) → Ran (ran c) (length (placed (tokensOf (c .args .file .now)))) (c .args .rows)
 has-run c = subst (λ n. Ran (ran c) n (c .args .rows)) (c .pre .0 .count-is) (c .pre .1 .1)
@@ -62,7 +63,7 @@ returns-3 c =
     let file = at .args .file .now in
     c .room .ensures
     ∙ sym (judge-room _ (at .args .sets) (at .args .names) (at .args .packets) (at .args .values) (length file) (placed (tokensOf file)) _ (at .args .rows)
-    (ran at) (run-number 8 start (fileTokens file) noRows) (has-run at) (rw (at .pre .1 .0) at (c .before .before .before .if1 .left)) (c .before .if2 .left))
+    (ran at) (run-number today start (fileTokens file) noRows) (has-run at) (rw (at .pre .1 .0) at (c .before .before .before .if1 .left)) (c .before .if2 .left))
 
 pub judge-spec : {M : Type 1} → statement M
 judge-spec =

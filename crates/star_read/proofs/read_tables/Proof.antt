@@ -2,6 +2,7 @@
 use mathlib.Core.Path.{_≡_, sym, _∙_, ap, subst}
 use borrow.Author.Needs.{needs}
 use lib.ListN.{length}
+use Rattle.star_lex.specs.Rules.{today}
 use Rattle.star_lex.specs.Split.{placed, tokensOf}
 use Rattle.star_grammar.specs.Tables.{noRows}
 use Rattle.star_grammar.specs.Machine.{run, start}
@@ -41,7 +42,7 @@ judge-requires c κs =
       at .pre .0,
       (
         at .pre .1,
-        answer-ran (run 8 start (fileTokens file) noRows) (at .args .count) (old read) (new read) (read .read-rows .result)
+        answer-ran (run today start (fileTokens file) noRows) (at .args .count) (old read) (new read) (read .read-rows .result)
             (subst (λ x. Answers (at .args .count) x (old read) (read .read-rows .result) (new read)) (held-run file (at .args .tokens .now) (at .args .count) (at .pre .0)) (read .read-rows .ensures .0)),
       ),
     )
