@@ -1,4 +1,11 @@
 -- The grammar, specification 4, as trees and the tokens that they yield. No parser stands here.
+--
+--   file   ::= block*
+--   block  ::= data_CODE ( item | loop | frame )*
+--   frame  ::= save_CODE ( item | loop )* save_
+--   item   ::= NAME value
+--   loop   ::= header packet+          header ::= loop_ NAME+ ( header | stop_* )
+--   packet ::= value+ [ packet* stop_ ]     one value for each name of its level; in brackets, the packets of the deeper level if there is one
 use mathlib.Core.Path.{_≡_}
 use mathlib.Core.Bool.{true}
 use mathlib.Core.List.{List, [], _∷_, _++_, map, flatMap}
