@@ -4,9 +4,10 @@ use mathlib.Core.List.{List, [], _∷_}
 use Prim.Native.Nat.{ℕ, zero, suc, _≤_}
 use native.Mathlib.Omega.{arith}
 use Rattle.star_text.specs.Bytes.{isPrintable, all}
+use Rattle.star_lex.specs.Rules.{Rules}
 use Rattle.star_lex.specs.Tokens.{Token, Each, dataWord, saveWord, loopWord, stopWord, globalWord}
 use Rattle.star_lex.specs.Split.{after}
-use Rattle.star_lex.specs.WellFormed.{WellFormed}
+use Rattle.star_lex.specs.WellFormed.{FormedBy}
 use Rattle.star_lex.specs.WellFormed as WellFormed
 use Rattle.star_lex.proofs.Each.{each-append, each-implies}
 use Rattle.star_grammar.specs.Tree.{frameEnd, stop}
@@ -25,7 +26,7 @@ fixed-other kind content h = record {
   stop-is = λ e. absurd (h .4 e);
 }
 
-pub formed-fixed : {t : Token} → WellFormed t → Fixed t
+pub formed-fixed : {rules : Rules} {t : Token} → FormedBy rules t → Fixed t
 formed-fixed (WellFormed.block x xs e h) = fixed-other 1 (x ∷ xs) (omega arith)
 formed-fixed (WellFormed.frame x xs e h) = fixed-other 2 (x ∷ xs) (omega arith)
 formed-fixed WellFormed.frameEnd =
@@ -42,12 +43,12 @@ formed-fixed (WellFormed.double c a e) = fixed-other 10 c (omega arith)
 formed-fixed (WellFormed.text c a e) = fixed-other 11 c (omega arith)
 formed-fixed WellFormed.global = fixed-other 12 globalWord (omega arith)
 
-pub each-fixed : (ts : List Token) → Each WellFormed ts → Each Fixed ts
-each-fixed = each-implies WellFormed Fixed (λ t h. formed-fixed h)
+pub each-fixed : (rules : Rules) (ts : List Token) → Each (FormedBy rules) ts → Each Fixed ts
+each-fixed rules = each-implies (FormedBy rules) Fixed (λ t h. formed-fixed h)
 
-formed-zero : WellFormed zeroWord
+formed-zero : (rules : Rules) → FormedBy rules zeroWord
 unfolding zeroWord all isPrintable after dataWord saveWord loopWord stopWord globalWord
-formed-zero = WellFormed.word 48 [] refl (record {
+formed-zero rules = WellFormed.word 48 [] refl (record {
   no-comment = refl;
   no-quote = refl;
   no-double = refl;
@@ -60,22 +61,23 @@ formed-zero = WellFormed.word 48 [] refl (record {
   no-global = refl;
 })
 
-formed-stop : WellFormed stop
+formed-stop : (rules : Rules) → FormedBy rules stop
 unfolding stop
-formed-stop = WellFormed.stop
+formed-stop rules = WellFormed.stop
 
-formed-end : WellFormed frameEnd
+formed-end : (rules : Rules) → FormedBy rules frameEnd
 unfolding frameEnd
-formed-end = WellFormed.frameEnd
+formed-end rules = WellFormed.frameEnd
 
-formed-naming : (st : State) (x : Token) → WellFormed x → Each WellFormed (naming st x)
-formed-naming start x h = tt
-formed-naming (within w) x h = tt
-formed-naming (named w) x h = tt
-formed-naming (header w first before zero s) x h = (h, tt)
-formed-naming (header w first before (suc n) s) x h = tt
-formed-naming (body w outer l inner f) x h = tt
+formed-naming : (rules : Rules) (st : State) (x : Token) → FormedBy rules x → Each (FormedBy rules) (naming st x)
+formed-naming rules start x h = tt
+formed-naming rules (within w) x h = tt
+formed-naming rules (named w) x h = tt
+formed-naming rules (header w first before zero s) x h = (h, tt)
+formed-naming rules (header w first before (suc n) s) x h = tt
+formed-naming rules (body w outer l inner f) x h = tt
 
-pub formed-completion : (st : State) (x : Token) → WellFormed x → Each WellFormed (completion st x)
-formed-completion st x h =
-    each-append WellFormed (naming st x) (ending st) .1 (formed-naming st x h, each-ending WellFormed formed-zero formed-stop formed-end st)
+pub formed-completion : (rules : Rules) (st : State) (x : Token) → FormedBy rules x → Each (FormedBy rules) (completion st x)
+formed-completion rules st x h =
+    each-append (FormedBy rules) (naming st x) (ending st) .1
+    (formed-naming rules st x h, each-ending (FormedBy rules) (formed-zero rules) (formed-stop rules) (formed-end rules) st)

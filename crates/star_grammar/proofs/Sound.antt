@@ -10,7 +10,7 @@ use lib.ListN.{length, replicate}
 use borrow.Author.Tests.{ltb-true, ltb-false, eqb-true}
 use Rattle.star_lex.specs.Rules.{Rules}
 use Rattle.star_lex.specs.Tokens.{Token, Each}
-use Rattle.star_grammar.specs.Tree.{IsValue, IsName, innerYield, packetYield, InnerWhole, Loop, loopYield, LoopBy, Entry, item, looped, entryYield, EntryBy, frameYield, own, framed, memberYield, MemberBy, blockYield, File, fileYield, FileBy, frameEnd, loopStart, stop}
+use Rattle.star_grammar.specs.Tree.{IsValue, IsName, innerYield, packetYield, InnerWhole, Loop, loopYield, LoopBy, Entry, item, looped, entryYield, EntryBy, frameYield, own, framed, memberYield, blockYield, File, fileYield, FileBy, frameEnd, loopStart, stop}
 use Rattle.star_grammar.specs.Tables.{Rows, noRows, rowsOf}
 use Rattle.star_grammar.specs.Machine.{Sort, sortOf, Where, inBlock, inFrame, Level, State, start, within, named, header, body, Step, go, refuse, between, filled, fill, valueAt, begin, headerStep, noValue, noValueAt, bodyStep, startStep, namedStep, step, bad, good, endBetween, endBody, endRun, run}
 use Rattle.star_grammar.specs.Rest.{Fixed, Members, Entries, InSet, Valued, Stopped, Packets, Filling, Levels, Heading, InBody, Blocks, Rest, SaneHeader, SaneBody, Sane}

@@ -9,8 +9,9 @@ use lib.Dec.{leb, ltb}
 use lib.ListN.{length}
 use Rattle.star_text.specs.Bytes.{mostBytes, firstRefused}
 use Rattle.star_rows.proofs.Stored.{room}
+use Rattle.star_lex.specs.Rules.{today}
 use Rattle.star_lex.specs.Tokens.{Placed}
-use Rattle.star_lex.specs.Split.{Split, refused, accepted, split, tokensOf}
+use Rattle.star_lex.specs.Split.{Split, refused, accepted, split, tokensBy}
 use Rattle.star_lex.specs.Found.{fitting, tokensIn, answerOf}
 use Rattle.star_lex.specs.declared.Tokens.{Tokens}
 use Rattle.star_lex.proofs.Cases.{impossible, cond-cases}
@@ -22,16 +23,16 @@ module _ (file : List ℕ) (words : ℕ) where
   tokens-too-long h = rw (lt-leb (length file) mostBytes h)
 
   pub tokens-refused-byte : length file ≤ mostBytes → firstRefused file < length file → tokensIn file words ≡ refused 2 (firstRefused file)
-  unfolding tokensIn tokensOf fitting
+  unfolding tokensIn tokensBy fitting
   tokens-refused-byte h k = rw (le-leb (length file) mostBytes h, lt-ltb (firstRefused file) (length file) k)
 
-  pub tokens-split : length file ≤ mostBytes → length file ≤ firstRefused file → tokensIn file words ≡ fitting words (split 0 true 0 file)
-  unfolding tokensIn tokensOf
+  pub tokens-split : length file ≤ mostBytes → length file ≤ firstRefused file → tokensIn file words ≡ fitting words (split today 0 true 0 file)
+  unfolding tokensIn tokensBy
   tokens-split h k = rw (le-leb (length file) mostBytes h, le-ltb (firstRefused file) (length file) k)
 
 -- a file that does not split is refused with 2 to 6, at one of its bytes
-pub tokens-faulty : (file : List ℕ) (n place : ℕ) → tokensOf file ≡ refused n place → (2 ≤ n) × (n ≤ 6) × (place < length file)
-unfolding tokensOf
+pub tokens-faulty : (file : List ℕ) (n place : ℕ) → tokensBy today file ≡ refused n place → (2 ≤ n) × (n ≤ 6) × (place < length file)
+unfolding tokensBy
 tokens-faulty file n place e =
     cond-cases (ltb (firstRefused file) (length file)) _ _ (refused n place) e
     (λ d h. let a : 2 ≡ n = cc in let b : firstRefused file ≡ place = cc in (omega arith, omega arith, omega (arith, ltb-true)))
@@ -46,12 +47,12 @@ answer-refused (refused n place) r e f =
     cc
 answer-refused (accepted ps) r e f = absurd (f (ap (λ t. t .refusal) e))
 
-pub answer-accepted : (file : List ℕ) (r : Tokens) → r ≡ answerOf (split 0 true 0 file) → r .refusal ≡ 0
-    → (ps : List Placed) × (split 0 true 0 file ≡ accepted ps) × (r .count ≡ length ps)
+pub answer-accepted : (file : List ℕ) (r : Tokens) → r ≡ answerOf (split today 0 true 0 file) → r .refusal ≡ 0
+    → (ps : List Placed) × (split today 0 true 0 file ≡ accepted ps) × (r .count ≡ length ps)
 unfolding answerOf
-answer-accepted file r e z = go (split 0 true 0 file) refl e
+answer-accepted file r e z = go (split today 0 true 0 file) refl e
   where
-    go : (s : Split) → split 0 true 0 file ≡ s → r ≡ answerOf s → (ps : List Placed) × (split 0 true 0 file ≡ accepted ps) × (r .count ≡ length ps)
+    go : (s : Split) → split today 0 true 0 file ≡ s → r ≡ answerOf s → (ps : List Placed) × (split today 0 true 0 file ≡ accepted ps) × (r .count ≡ length ps)
     go (refused n place) q d =
         let a : r .refusal ≡ n = ap (λ t. t .refusal) d in
         absurd (omega (arith, split-refused 0 true 0 file n place q .0))
@@ -67,24 +68,24 @@ unfolding fitting
 fitting-room words ps h = rw (room 3 (length ps) words (omega arith), le-leb (length ps) (words / 3) h)
 
 -- tokens that fit are those of the file
-pub tokens-accepted : (file : List ℕ) (words : ℕ) (ps : List Placed) → tokensIn file words ≡ accepted ps → tokensOf file ≡ accepted ps
+pub tokens-accepted : (file : List ℕ) (words : ℕ) (ps : List Placed) → tokensIn file words ≡ accepted ps → tokensBy today file ≡ accepted ps
 unfolding tokensIn fitting
 tokens-accepted file words ps e =
-    cond-cases (leb (length file) mostBytes) _ _ (accepted ps) e (λ d. fits (tokensOf file)) (λ d h. impossible cc)
+    cond-cases (leb (length file) mostBytes) _ _ (accepted ps) e (λ d. fits (tokensBy today file)) (λ d h. impossible cc)
   where
     fits : (s : Split) → fitting words s ≡ accepted ps → s ≡ accepted ps
     fits (refused n place) h = impossible cc
     fits (accepted qs) h = cond-cases (leb (length qs * 3) words) _ _ (accepted ps) h (λ d k. k) (λ d k. impossible cc)
 
 -- a refusal of the tokens is not 0
-tokens-number : (file : List ℕ) (n place : ℕ) → tokensOf file ≡ refused n place → n ≡ 0 → ⊥
-unfolding tokensOf
+tokens-number : (file : List ℕ) (n place : ℕ) → tokensBy today file ≡ refused n place → n ≡ 0 → ⊥
+unfolding tokensBy
 tokens-number file n place e z =
     cond-cases (ltb (firstRefused file) (length file)) _ _ _ e
     (λ q h. let k : 2 ≡ n = cc in omega arith)
     (λ q h. omega (arith, split-refused 0 true 0 file n place h .0))
 
-fitting-number : (file : List ℕ) (words n place : ℕ) (s : Split) → tokensOf file ≡ s → fitting words s ≡ refused n place → n ≡ 0 → ⊥
+fitting-number : (file : List ℕ) (words n place : ℕ) (s : Split) → tokensBy today file ≡ s → fitting words s ≡ refused n place → n ≡ 0 → ⊥
 unfolding fitting
 fitting-number file words n place (refused m q) d e z = let k : m ≡ n = cc in tokens-number file m q d (k ∙ z)
 fitting-number file words n place (accepted ps) d e z =
@@ -94,7 +95,7 @@ pub in-number : (file : List ℕ) (words n place : ℕ) → tokensIn file words 
 unfolding tokensIn
 in-number file words n place e z =
     cond-cases (leb (length file) mostBytes) _ _ _ e
-    (λ q h. fitting-number file words n place (tokensOf file) refl h z)
+    (λ q h. fitting-number file words n place (tokensBy today file) refl h z)
     (λ q h. let k : 1 ≡ n = cc in omega arith)
 
 -- no refusal: the tokens
@@ -117,5 +118,5 @@ pub in-fits : (file : List ℕ) (words : ℕ) (ps : List Placed) → tokensIn fi
 unfolding tokensIn
 in-fits file words ps e =
     cond-cases (leb (length file) mostBytes) _ _ _ e
-    (λ q h. (leb-true _ _ q, fitting-within words (tokensOf file) ps h))
+    (λ q h. (leb-true _ _ q, fitting-within words (tokensBy today file) ps h))
     (λ q h. impossible cc)

@@ -8,8 +8,9 @@ use native.Mathlib.Omega.{arith}
 use lib.Dec.{eqb, leb}
 use lib.ListN.{length, drop}
 use Rattle.star_text.specs.Bytes.{isTerminate, isWhite, run}
+use Rattle.star_lex.specs.Rules.{Rules, today}
 use Rattle.star_lex.specs.Tokens.{Token, Placed, dataWord, saveWord, loopWord, stopWord, globalWord}
-use Rattle.star_lex.specs.Split.{Lexeme, gap, token, faulty, accepted, after, either, whiteNext, quoted, field, limited, blockWord, frameWord, alone, nameWord, referenceWord, wordLexeme, wordFrom, quotedLexeme, fieldLexeme, lexeme, tokensOf}
+use Rattle.star_lex.specs.Split.{Lexeme, gap, token, faulty, accepted, after, either, whiteNext, quoted, field, limited, blockWord, frameWord, alone, nameWord, referenceWord, wordLexeme, wordFrom, quotedLexeme, fieldLexeme, lexeme, tokensBy, tokensOf}
 use Rattle.star_lex.proofs.Cases.{impossible, cond-cases}
 use Rattle.star_lex.proofs.Steps.{Steps, ends, within, passes, takes, accepted-steps}
 
@@ -19,33 +20,33 @@ More m (gap n) = Unit {0}
 More m (token n t) = n ≡ m
 More m (faulty n) = Unit {0}
 
-limited-more : (more kind : ℕ) (content : List ℕ) → More more (limited more kind content)
+limited-more : (rules : Rules) (more kind : ℕ) (content : List ℕ) → More more (limited rules more kind content)
 unfolding limited
-limited-more more kind content = by (leb (length content) 32)
+limited-more rules more kind content = by (leb (length content) (rules .longest))
   where
     by : (b : Bool) → More more (cond b (token more (record { kind = kind; content = content })) (faulty 4))
     by true = refl
     by false = tt
 
-block-more : (more : ℕ) (bs : List ℕ) → More more (blockWord more bs)
+block-more : (rules : Rules) (more : ℕ) (bs : List ℕ) → More more (blockWord rules more bs)
 unfolding blockWord
-block-more more [] = tt
-block-more more (b ∷ bs) = limited-more more 1 (b ∷ bs)
+block-more rules more [] = tt
+block-more rules more (b ∷ bs) = limited-more rules more 1 (b ∷ bs)
 
-frame-more : (more : ℕ) (bs : List ℕ) → More more (frameWord more bs)
+frame-more : (rules : Rules) (more : ℕ) (bs : List ℕ) → More more (frameWord rules more bs)
 unfolding frameWord
-frame-more more [] = refl
-frame-more more (b ∷ bs) = limited-more more 2 (b ∷ bs)
+frame-more rules more [] = refl
+frame-more rules more (b ∷ bs) = limited-more rules more 2 (b ∷ bs)
 
 alone-more : (more kind : ℕ) (w bs : List ℕ) → More more (alone more kind w bs)
 unfolding alone
 alone-more more kind w [] = refl
 alone-more more kind w (b ∷ bs) = tt
 
-name-more : (more : ℕ) (bs : List ℕ) → More more (nameWord more bs)
+name-more : (rules : Rules) (more : ℕ) (bs : List ℕ) → More more (nameWord rules more bs)
 unfolding nameWord
-name-more more [] = tt
-name-more more (b ∷ bs) = limited-more more 6 (95 ∷ b ∷ bs)
+name-more rules more [] = tt
+name-more rules more (b ∷ bs) = limited-more rules more 6 (95 ∷ b ∷ bs)
 
 reference-more : (more : ℕ) (bs : List ℕ) → More more (referenceWord more bs)
 unfolding referenceWord
@@ -58,15 +59,15 @@ unfolding either
 either-more m none f other p q = q
 either-more m (some bs) f other p q = p bs
 
-word-more : (more : ℕ) (w : List ℕ) → More more (wordLexeme more w)
+word-more : (rules : Rules) (more : ℕ) (w : List ℕ) → More more (wordLexeme rules more w)
 unfolding wordLexeme
-word-more more w =
-    either-more more (after dataWord w) _ _ (block-more more)
-    (either-more more (after saveWord w) _ _ (frame-more more)
+word-more rules more w =
+    either-more more (after dataWord w) _ _ (block-more rules more)
+    (either-more more (after saveWord w) _ _ (frame-more rules more)
     (either-more more (after loopWord w) _ _ (alone-more more 4 loopWord)
     (either-more more (after stopWord w) _ _ (alone-more more 5 stopWord)
     (either-more more (after globalWord w) _ _ (alone-more more 12 globalWord)
-    (either-more more (after (95 ∷ []) w) _ _ (name-more more)
+    (either-more more (after (95 ∷ []) w) _ _ (name-more rules more)
     (either-more more (after (36 ∷ []) w) _ _ (reference-more more) refl))))))
 
 more-token : {m n : ℕ} {t : Token} {l : Lexeme} → More m l → l ≡ token n t → n ≡ m
@@ -109,23 +110,23 @@ string-white kind q bs more t e = by (quoted q bs) refl e
     by none d h = impossible cc
     by (some c) d h = let z : suc (length c) ≡ more = cc in rw (← z) (quoted-white q bs c d)
 
-from-white : (b : ℕ) (bs : List ℕ) (more : ℕ) (t : Token) → wordFrom b bs ≡ token more t → whiteNext (drop more bs) ≡ true
+from-white : (rules : Rules) (b : ℕ) (bs : List ℕ) (more : ℕ) (t : Token) → wordFrom rules b bs ≡ token more t → whiteNext (drop more bs) ≡ true
 unfolding wordFrom
-from-white b bs more t e =
-    let z : more ≡ length (run (λ c. not (isWhite c)) bs) = more-token (word-more (length (run (λ c. not (isWhite c)) bs)) (b ∷ run (λ c. not (isWhite c)) bs)) e in
+from-white rules b bs more t e =
+    let z : more ≡ length (run (λ c. not (isWhite c)) bs) = more-token (word-more rules (length (run (λ c. not (isWhite c)) bs)) (b ∷ run (λ c. not (isWhite c)) bs)) e in
     rw z (word-white bs)
 
 -- a token's first byte is no white space
-lexeme-white : (line : Bool) (b : ℕ) (bs : List ℕ) (more : ℕ) (t : Token) → lexeme line b bs ≡ token more t
+lexeme-white : (rules : Rules) (line : Bool) (b : ℕ) (bs : List ℕ) (more : ℕ) (t : Token) → lexeme rules line b bs ≡ token more t
     → (whiteNext (drop more bs) ≡ true) × (isWhite b ≡ false)
 unfolding lexeme
-lexeme-white line b bs more t e =
+lexeme-white rules line b bs more t e =
     cond-cases (isWhite b) _ _ (token more t) e (λ k h. impossible cc)
     (λ w h₁. (
       cond-cases (eqb b 35) _ _ (token more t) h₁ (λ k h. impossible cc)
           (λ k h₂. cond-cases (line && eqb b 59) _ _ (token more t) h₂ (λ l h. field-white (field bs) bs more t h)
           (λ l h₃. cond-cases (eqb b 39) _ _ (token more t) h₃ (λ m h. string-white 9 39 bs more t h)
-          (λ m h₄. cond-cases (eqb b 34) _ _ (token more t) h₄ (λ n h. string-white 10 34 bs more t h) (λ n h. from-white b bs more t h)))),
+          (λ m h₄. cond-cases (eqb b 34) _ _ (token more t) h₄ (λ n h. string-white 10 34 bs more t h) (λ n h. from-white rules b bs more t h)))),
       w,
     ))
 
@@ -133,19 +134,22 @@ lexeme-white line b bs more t e =
 abbrev Bound : ℕ → List ℕ → List Placed → Type 0
 Bound skip bs ps = (length ps * 2 ≤ length bs - skip + 1) × (whiteNext (drop skip bs) ≡ true → length ps * 2 ≤ length bs - skip)
 
-steps-bound : {skip : ℕ} {line : Bool} {at : ℕ} {bs : List ℕ} {ps : List Placed} → Steps skip line at bs ps → Bound skip bs ps
+steps-bound : (rules : Rules) {skip : ℕ} {line : Bool} {at : ℕ} {bs : List ℕ} {ps : List Placed} → Steps rules skip line at bs ps → Bound skip bs ps
 unfolding whiteNext
-steps-bound ends = (omega arith, λ w. omega arith)
-steps-bound (within {skip} {line} {at} {b} {bs} {ps} s) =
-    let h : Bound skip bs ps = steps-bound s in
+steps-bound rules ends = (omega arith, λ w. omega arith)
+steps-bound rules (within {skip} {line} {at} {b} {bs} {ps} s) =
+    let h : Bound skip bs ps = steps-bound rules s in
     (omega (arith, h .0), λ w. omega (arith, h .1 w))
-steps-bound (passes {line} {at} {b} {bs} {ps} more e s) =
-    let h : Bound more bs ps = steps-bound s in
+steps-bound rules (passes {line} {at} {b} {bs} {ps} more e s) =
+    let h : Bound more bs ps = steps-bound rules s in
     (omega (arith, h .0), λ w. omega (arith, h .0))
-steps-bound (takes {line} {at} {b} {bs} {ps} more t e s) =
-    let h : Bound more bs ps = steps-bound s in
-    let k : (whiteNext (drop more bs) ≡ true) × (isWhite b ≡ false) = lexeme-white line b bs more t e in
+steps-bound rules (takes {line} {at} {b} {bs} {ps} more t e s) =
+    let h : Bound more bs ps = steps-bound rules s in
+    let k : (whiteNext (drop more bs) ≡ true) × (isWhite b ≡ false) = lexeme-white rules line b bs more t e in
     (omega (arith, h .1 (k .0)), λ w. impossible (let z : true ≡ false = sym w ∙ k .1 in cc))
 
+pub bound-by : (rules : Rules) (file : List ℕ) (ps : List Placed) → tokensBy rules file ≡ accepted ps → length ps * 2 ≤ length file + 1
+bound-by rules file ps e = let h : Bound 0 file ps = steps-bound rules (accepted-steps rules file ps e) in omega (arith, h .0)
+
 pub tokens-bound : (file : List ℕ) (ps : List Placed) → tokensOf file ≡ accepted ps → length ps * 2 ≤ length file + 1
-tokens-bound file ps e = let h : Bound 0 file ps = steps-bound (accepted-steps file ps e) in omega (arith, h .0)
+tokens-bound = bound-by today

@@ -10,7 +10,8 @@ use borrow.Author.Tests.{ltb-true, ltb-false, eqb-true, eq-eqb}
 use lib.Dec.{eqb, ltb}
 use lib.ListN.{length}
 use Rattle.star_text.specs.Bytes.{isPrintable, all}
-use Rattle.star_lex.specs.WellFormed.{WellFormed, name}
+use Rattle.star_lex.specs.Rules.{Rules}
+use Rattle.star_lex.specs.WellFormed.{FormedBy, name}
 use Rattle.star_lex.proofs.Cases.{impossible}
 
 -- what follows a first byte in the names that begin with it
@@ -79,20 +80,20 @@ fresh (suc n) ns h = go (ltb (length (following 97 ns)) (2 ^ n)) refl (fresh n (
     go false e f g =
         fresh-cons 98 n ns refl (g (omega (arith, ltb-false, following-count 97 98 ns (λ q. omega arith))))
 
-name-formed : (x : List ℕ) → 0 < length x → length x < 32 → all isPrintable x ≡ true → WellFormed (record { kind = 6; content = 95 ∷ x })
-name-formed [] l h p = absurd (omega arith)
-name-formed (b ∷ bs) l h p = name b bs p h
+name-formed : (rules : Rules) (x : List ℕ) → 0 < length x → length x < rules .longest → all isPrintable x ≡ true → FormedBy rules (record { kind = 6; content = 95 ∷ x })
+name-formed rules [] l h p = absurd (omega arith)
+name-formed rules (b ∷ bs) l h p = name b bs p h
 
 -- a name of that many letters after its underscore
-pub fresh-name-of : (n : ℕ) (names : List (List ℕ)) → 0 < n → n < 32 → length names < 2 ^ n
-    → (x : List ℕ) × WellFormed (record { kind = 6; content = x }) × (List·Memᴰ x names → ⊥)
-fresh-name-of n names l u h =
+pub fresh-name-of : (rules : Rules) (n : ℕ) (names : List (List ℕ)) → 0 < n → n < rules .longest → length names < 2 ^ n
+    → (x : List ℕ) × FormedBy rules (record { kind = 6; content = x }) × (List·Memᴰ x names → ⊥)
+fresh-name-of rules n names l u h =
     let f : Fresh n (following 95 names) = fresh n (following 95 names) (omega (arith, following-count 95 96 names (λ q. omega arith))) in (
       95 ∷ f .letters,
-      name-formed (f .letters) (omega (arith, f .long)) (omega (arith, f .long)) (f .printable),
+      name-formed rules (f .letters) (omega (arith, f .long)) (omega (arith, f .long)) (f .printable),
       λ m. f .other (mem-following 95 (f .letters) names m),
     )
 
-pub fresh-name : (names : List (List ℕ)) → length names < 2 ^ 20
-    → (x : List ℕ) × WellFormed (record { kind = 6; content = x }) × (List·Memᴰ x names → ⊥)
-fresh-name names h = fresh-name-of 20 names (omega arith) (omega arith) h
+pub fresh-name : (rules : Rules) → 20 < rules .longest → (names : List (List ℕ)) → length names < 2 ^ 20
+    → (x : List ℕ) × FormedBy rules (record { kind = 6; content = x }) × (List·Memᴰ x names → ⊥)
+fresh-name rules long names h = fresh-name-of rules 20 names (omega arith) long h

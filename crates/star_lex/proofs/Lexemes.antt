@@ -10,70 +10,71 @@ use borrow.Author.Tests.{leb-true, eqb-true}
 use lib.Dec.{eqb, leb}
 use lib.ListN.{length, drop, length-append}
 use Rattle.star_text.specs.Bytes.{isBlank, isTerminate, isWhite, isPrintable, isAllowed, all, run}
+use Rattle.star_lex.specs.Rules.{Rules}
 use Rattle.star_lex.specs.Tokens.{Token, opening, dataWord, saveWord, loopWord, stopWord, globalWord}
 use Rattle.star_lex.specs.Split.{token, after, whiteNext, quoted, field, limited, blockWord, frameWord, alone, nameWord, referenceWord, wordLexeme, wordFrom, quotedLexeme, fieldLexeme, lexeme}
 use Rattle.star_lex.specs.Plain.{closing}
-use Rattle.star_lex.specs.WellFormed.{WellFormed, Ordinary, quotable, block, frame, frameEnd, loop, stop, name, word, reference, single, double, text, global}
+use Rattle.star_lex.specs.WellFormed.{FormedBy, Ordinary, quotable, block, frame, frameEnd, loop, stop, name, word, reference, single, double, text, global}
 use Rattle.star_text.proofs.Bytes.{eqb-comm, allowed-printable, all-head, all-tail, all-append, run-append-drop, all-printable-run}
 use Rattle.star_lex.proofs.Cases.{impossible, cond-cases, either-cases}
 use Rattle.star_lex.proofs.Words.{after-append}
 use Rattle.star_lex.proofs.Delimited.{quoted-some, field-some}
 
 -- a word's token: the word's bytes, with nothing after its content
-record WordOf (more : ℕ) (w : List ℕ) (m : ℕ) (t : Token) : Type 0 where
+record WordOf (rules : Rules) (more : ℕ) (w : List ℕ) (m : ℕ) (t : Token) : Type 0 where
   length-is : m ≡ more
   bytes : w ≡ opening (t .kind) ++ t .content
   nothing-after : closing (t .kind) ≡ []
-  formed : WellFormed t
+  formed : FormedBy rules t
 
-limited-token : (more kind : ℕ) (c : List ℕ) (m : ℕ) (t : Token) → limited more kind c ≡ token m t
-    → (m ≡ more) × (t ≡ record { kind = kind; content = c }) × (length c ≤ 32)
+limited-token : (rules : Rules) (more kind : ℕ) (c : List ℕ) (m : ℕ) (t : Token) → limited rules more kind c ≡ token m t
+    → (m ≡ more) × (t ≡ record { kind = kind; content = c }) × (length c ≤ rules .longest)
 unfolding limited
-limited-token more kind c m t e =
-    cond-cases (leb (length c) 32) _ _ _ e (λ q h. (cc, cc, leb-true (length c) 32 q)) (λ q h. impossible cc)
+limited-token rules more kind c m t e =
+    cond-cases (leb (length c) (rules .longest)) _ _ _ e (λ q h. (cc, cc, leb-true (length c) (rules .longest) q)) (λ q h. impossible cc)
 
-blockWord-token : (more : ℕ) (cs : List ℕ) (m : ℕ) (t : Token) → all isPrintable (dataWord ++ cs) ≡ true → blockWord more cs ≡ token m t
-    → WordOf more (dataWord ++ cs) m t
+blockWord-token : (rules : Rules) (more : ℕ) (cs : List ℕ) (m : ℕ) (t : Token) → all isPrintable (dataWord ++ cs) ≡ true → blockWord rules more cs ≡ token m t
+    → WordOf rules more (dataWord ++ cs) m t
 unfolding blockWord opening closing dataWord all isPrintable
-blockWord-token more [] m t p e = impossible cc
-blockWord-token more (x ∷ xs) m t p e =
-    let (f, g, h) = limited-token more 1 (x ∷ xs) m t e in
+blockWord-token rules more [] m t p e = impossible cc
+blockWord-token rules more (x ∷ xs) m t p e =
+    let (f, g, h) = limited-token rules more 1 (x ∷ xs) m t e in
     rw g (record { length-is = f; bytes = refl; nothing-after = refl; formed = block x xs p h })
 
-frameWord-token : (more : ℕ) (cs : List ℕ) (m : ℕ) (t : Token) → all isPrintable (saveWord ++ cs) ≡ true → frameWord more cs ≡ token m t
-    → WordOf more (saveWord ++ cs) m t
+frameWord-token : (rules : Rules) (more : ℕ) (cs : List ℕ) (m : ℕ) (t : Token) → all isPrintable (saveWord ++ cs) ≡ true → frameWord rules more cs ≡ token m t
+    → WordOf rules more (saveWord ++ cs) m t
 unfolding frameWord opening closing saveWord all isPrintable
-frameWord-token more [] m t p e =
+frameWord-token rules more [] m t p e =
     let g : record { kind = 3; content = saveWord } ≡ t = cc in
     rw (← g) (record { length-is = cc; bytes = refl; nothing-after = refl; formed = frameEnd })
-frameWord-token more (x ∷ xs) m t p e =
-    let (f, g, h) = limited-token more 2 (x ∷ xs) m t e in
+frameWord-token rules more (x ∷ xs) m t p e =
+    let (f, g, h) = limited-token rules more 2 (x ∷ xs) m t e in
     rw g (record { length-is = f; bytes = refl; nothing-after = refl; formed = frame x xs p h })
 
-alone-token : (more kind : ℕ) (w cs : List ℕ) (m : ℕ) (t : Token) → opening kind ≡ [] → closing kind ≡ []
-    → WellFormed (record { kind = kind; content = w }) → alone more kind w cs ≡ token m t → WordOf more (w ++ cs) m t
+alone-token : (rules : Rules) (more kind : ℕ) (w cs : List ℕ) (m : ℕ) (t : Token) → opening kind ≡ [] → closing kind ≡ []
+    → FormedBy rules (record { kind = kind; content = w }) → alone more kind w cs ≡ token m t → WordOf rules more (w ++ cs) m t
 unfolding alone
-alone-token more kind w [] m t o c f e =
+alone-token rules more kind w [] m t o c f e =
     let g : record { kind = kind; content = w } ≡ t = cc in
     rw (← g) (record { length-is = cc; bytes = rw (o, append-nil); nothing-after = c; formed = f })
-alone-token more kind w (x ∷ xs) m t o c f e = impossible cc
+alone-token rules more kind w (x ∷ xs) m t o c f e = impossible cc
 
-nameWord-token : (more : ℕ) (cs : List ℕ) (m : ℕ) (t : Token) → all isPrintable cs ≡ true → nameWord more cs ≡ token m t
-    → WordOf more (95 ∷ cs) m t
+nameWord-token : (rules : Rules) (more : ℕ) (cs : List ℕ) (m : ℕ) (t : Token) → all isPrintable cs ≡ true → nameWord rules more cs ≡ token m t
+    → WordOf rules more (95 ∷ cs) m t
 unfolding nameWord opening closing
-nameWord-token more [] m t p e = impossible cc
-nameWord-token more (x ∷ xs) m t p e =
-    let (f, g, h) = limited-token more 6 (95 ∷ x ∷ xs) m t e in
+nameWord-token rules more [] m t p e = impossible cc
+nameWord-token rules more (x ∷ xs) m t p e =
+    let (f, g, h) = limited-token rules more 6 (95 ∷ x ∷ xs) m t e in
     rw g (record { length-is = f; bytes = refl; nothing-after = refl; formed = name x xs p h })
 
-referenceWord-token : (more : ℕ) (cs : List ℕ) (m : ℕ) (t : Token) → all isPrintable cs ≡ true → referenceWord more cs ≡ token m t
-    → WordOf more (36 ∷ cs) m t
+referenceWord-token : (rules : Rules) (more : ℕ) (cs : List ℕ) (m : ℕ) (t : Token) → all isPrintable cs ≡ true → referenceWord more cs ≡ token m t
+    → WordOf rules more (36 ∷ cs) m t
 unfolding referenceWord opening closing all isPrintable after dataWord saveWord loopWord stopWord globalWord
-referenceWord-token more [] m t p e =
+referenceWord-token rules more [] m t p e =
     let g : record { kind = 7; content = 36 ∷ [] } ≡ t = cc in
     let o : Ordinary 36 [] = search in
     rw (← g) (record { length-is = cc; bytes = refl; nothing-after = refl; formed = word 36 [] refl o })
-referenceWord-token more (x ∷ xs) m t p e =
+referenceWord-token rules more (x ∷ xs) m t p e =
     let g : record { kind = 8; content = x ∷ xs } ≡ t = cc in
     rw (← g) (record { length-is = cc; bytes = refl; nothing-after = refl; formed = reference x xs p })
 
@@ -81,33 +82,33 @@ after-one-none : (a x : ℕ) (xs : List ℕ) → after (a ∷ []) (x ∷ xs) ≡
 unfolding after
 after-one-none a x xs e = rw (eqb-comm x a) (cond-cases (eqb a x) _ _ _ e (λ q h. impossible cc) (λ q h. q))
 
-module _ (more x : ℕ) (xs : List ℕ) (m : ℕ) (t : Token) (p : all isPrintable (x ∷ xs) ≡ true) where
+module _ (rules : Rules) (more x : ℕ) (xs : List ℕ) (m : ℕ) (t : Token) (p : all isPrintable (x ∷ xs) ≡ true) where
   printable-after : (ps cs : List ℕ) → after ps (x ∷ xs) ≡ some cs → all isPrintable (ps ++ cs) ≡ true
   printable-after ps cs e = rw (after-append ps (x ∷ xs) cs e) at p
 
-  wordLexeme-token : eqb x 35 ≡ false → eqb x 39 ≡ false → eqb x 34 ≡ false → wordLexeme more (x ∷ xs) ≡ token m t → WordOf more (x ∷ xs) m t
+  wordLexeme-token : eqb x 35 ≡ false → eqb x 39 ≡ false → eqb x 34 ≡ false → wordLexeme rules more (x ∷ xs) ≡ token m t → WordOf rules more (x ∷ xs) m t
   unfolding wordLexeme opening closing all isPrintable
   wordLexeme-token no-comment no-quote no-double e =
-      either-cases (after dataWord (x ∷ xs)) (blockWord more) _ _ e
-      (λ cs q h. rw (after-append dataWord (x ∷ xs) cs q) (blockWord-token more cs m t (printable-after dataWord cs q) h))
+      either-cases (after dataWord (x ∷ xs)) (blockWord rules more) _ _ e
+      (λ cs q h. rw (after-append dataWord (x ∷ xs) cs q) (blockWord-token rules more cs m t (printable-after dataWord cs q) h))
       (λ no-data e₁.
-      either-cases (after saveWord (x ∷ xs)) (frameWord more) _ _ e₁
-      (λ cs q h. rw (after-append saveWord (x ∷ xs) cs q) (frameWord-token more cs m t (printable-after saveWord cs q) h))
+      either-cases (after saveWord (x ∷ xs)) (frameWord rules more) _ _ e₁
+      (λ cs q h. rw (after-append saveWord (x ∷ xs) cs q) (frameWord-token rules more cs m t (printable-after saveWord cs q) h))
       (λ no-save e₂.
       either-cases (after loopWord (x ∷ xs)) (alone more 4 loopWord) _ _ e₂
-      (λ cs q h. rw (after-append loopWord (x ∷ xs) cs q) (alone-token more 4 loopWord cs m t refl refl loop h))
+      (λ cs q h. rw (after-append loopWord (x ∷ xs) cs q) (alone-token rules more 4 loopWord cs m t refl refl loop h))
       (λ no-loop e₃.
       either-cases (after stopWord (x ∷ xs)) (alone more 5 stopWord) _ _ e₃
-      (λ cs q h. rw (after-append stopWord (x ∷ xs) cs q) (alone-token more 5 stopWord cs m t refl refl stop h))
+      (λ cs q h. rw (after-append stopWord (x ∷ xs) cs q) (alone-token rules more 5 stopWord cs m t refl refl stop h))
       (λ no-stop e₄.
       either-cases (after globalWord (x ∷ xs)) (alone more 12 globalWord) _ _ e₄
-      (λ cs q h. rw (after-append globalWord (x ∷ xs) cs q) (alone-token more 12 globalWord cs m t refl refl global h))
+      (λ cs q h. rw (after-append globalWord (x ∷ xs) cs q) (alone-token rules more 12 globalWord cs m t refl refl global h))
       (λ no-global e₅.
-      either-cases (after (95 ∷ []) (x ∷ xs)) (nameWord more) _ _ e₅
-      (λ cs q h. rw (after-append (95 ∷ []) (x ∷ xs) cs q) (nameWord-token more cs m t (printable-after (95 ∷ []) cs q) h))
+      either-cases (after (95 ∷ []) (x ∷ xs)) (nameWord rules more) _ _ e₅
+      (λ cs q h. rw (after-append (95 ∷ []) (x ∷ xs) cs q) (nameWord-token rules more cs m t (printable-after (95 ∷ []) cs q) h))
       (λ no-name e₆.
       either-cases (after (36 ∷ []) (x ∷ xs)) (referenceWord more) _ _ e₆
-      (λ cs q h. rw (after-append (36 ∷ []) (x ∷ xs) cs q) (referenceWord-token more cs m t (printable-after (36 ∷ []) cs q) h))
+      (λ cs q h. rw (after-append (36 ∷ []) (x ∷ xs) cs q) (referenceWord-token rules more cs m t (printable-after (36 ∷ []) cs q) h))
       (λ no-reference e₇.
       let g : record { kind = 7; content = x ∷ xs } ≡ t = cc in
       let o : Ordinary x xs = record {
@@ -125,22 +126,22 @@ module _ (more x : ℕ) (xs : List ℕ) (m : ℕ) (t : Token) (p : all isPrintab
       rw (← g) (record { length-is = cc; bytes = refl; nothing-after = refl; formed = word x xs p o }))))))))
 
 -- a token at a place: its bytes stand there
-pub record TokenAt (b : ℕ) (bs : List ℕ) (more : ℕ) (t : Token) : Type 0 where
+pub record TokenAt (rules : Rules) (b : ℕ) (bs : List ℕ) (more : ℕ) (t : Token) : Type 0 where
   pub rest : List ℕ
   pub bytes : b ∷ bs ≡ opening (t .kind) ++ (t .content ++ rest)
   pub length-is : suc more ≡ length (opening (t .kind)) + length (t .content) + length (closing (t .kind))
-  pub formed : WellFormed t
+  pub formed : FormedBy rules t
 
 allowed-part : (b : ℕ) (bs c rest : List ℕ) → bs ≡ c ++ rest → all isAllowed (b ∷ bs) ≡ true → all isAllowed c ≡ true
 allowed-part b bs c rest s a =
     (and-eq-true-iff (all isAllowed c) (all isAllowed rest)) .0 (rw (s, all-append isAllowed c rest) at (all-tail isAllowed b bs a)) .0
 
-fieldLexeme-token : (b : ℕ) (bs : List ℕ) (more : ℕ) (t : Token) → b ≡ 59 → all isAllowed (b ∷ bs) ≡ true
-    → fieldLexeme (field bs) bs ≡ token more t → TokenAt b bs more t
+fieldLexeme-token : (rules : Rules) (b : ℕ) (bs : List ℕ) (more : ℕ) (t : Token) → b ≡ 59 → all isAllowed (b ∷ bs) ≡ true
+    → fieldLexeme (field bs) bs ≡ token more t → TokenAt rules b bs more t
 unfolding fieldLexeme opening closing
-fieldLexeme-token b bs more t n a e = go (field bs) refl e
+fieldLexeme-token rules b bs more t n a e = go (field bs) refl e
   where
-    go : (o : Option (List ℕ)) → field bs ≡ o → fieldLexeme o bs ≡ token more t → TokenAt b bs more t
+    go : (o : Option (List ℕ)) → field bs ≡ o → fieldLexeme o bs ≡ token more t → TokenAt rules b bs more t
     go none q h = impossible cc
     go (some c) q h =
         cond-cases (whiteNext (drop (length c + 2) bs)) _ _ _ h
@@ -156,13 +157,13 @@ fieldLexeme-token b bs more t n a e = go (field bs) refl e
         }))
         (λ w g. impossible cc)
 
-quotedLexeme-token : (kind q b : ℕ) (bs : List ℕ) (more : ℕ) (t : Token) → b ≡ q → isWhite q ≡ false → opening kind ≡ q ∷ [] → closing kind ≡ q ∷ []
-    → ((c : List ℕ) → all isAllowed c ≡ true → quotable q c ≡ true → WellFormed (record { kind = kind; content = c }))
-    → all isAllowed (b ∷ bs) ≡ true → quotedLexeme kind (quoted q bs) ≡ token more t → TokenAt b bs more t
+quotedLexeme-token : (rules : Rules) (kind q b : ℕ) (bs : List ℕ) (more : ℕ) (t : Token) → b ≡ q → isWhite q ≡ false → opening kind ≡ q ∷ [] → closing kind ≡ q ∷ []
+    → ((c : List ℕ) → all isAllowed c ≡ true → quotable q c ≡ true → FormedBy rules (record { kind = kind; content = c }))
+    → all isAllowed (b ∷ bs) ≡ true → quotedLexeme kind (quoted q bs) ≡ token more t → TokenAt rules b bs more t
 unfolding quotedLexeme
-quotedLexeme-token kind q b bs more t n w o c f a e = go (quoted q bs) refl e
+quotedLexeme-token rules kind q b bs more t n w o c f a e = go (quoted q bs) refl e
   where
-    go : (o : Option (List ℕ)) → quoted q bs ≡ o → quotedLexeme kind o ≡ token more t → TokenAt b bs more t
+    go : (o : Option (List ℕ)) → quoted q bs ≡ o → quotedLexeme kind o ≡ token more t → TokenAt rules b bs more t
     go none q h = impossible cc
     go (some d) k h =
         let (rest, s, l) = quoted-some q bs d w k in
@@ -175,14 +176,14 @@ quotedLexeme-token kind q b bs more t n w o c f a e = go (quoted q bs) refl e
           formed = f d (allowed-part b bs d (q ∷ rest) s a) l;
         })
 
-word-token : (b : ℕ) (bs : List ℕ) (more : ℕ) (t : Token) → all isAllowed (b ∷ bs) ≡ true
+word-token : (rules : Rules) (b : ℕ) (bs : List ℕ) (more : ℕ) (t : Token) → all isAllowed (b ∷ bs) ≡ true
     → isWhite b ≡ false → eqb b 35 ≡ false → eqb b 39 ≡ false → eqb b 34 ≡ false
-    → wordLexeme (length (run (λ c. not (isWhite c)) bs)) (b ∷ run (λ c. not (isWhite c)) bs) ≡ token more t → TokenAt b bs more t
+    → wordLexeme rules (length (run (λ c. not (isWhite c)) bs)) (b ∷ run (λ c. not (isWhite c)) bs) ≡ token more t → TokenAt rules b bs more t
 unfolding all
-word-token b bs more t a no-white no-comment no-quote no-double e =
+word-token rules b bs more t a no-white no-comment no-quote no-double e =
     let w : List ℕ = run (λ c. not (isWhite c)) bs in
     let p : all isPrintable (b ∷ w) ≡ true = rw (allowed-printable b (all-head isAllowed b bs a) no-white, all-printable-run bs (all-tail isAllowed b bs a)) in
-    let o : WordOf (length w) (b ∷ w) more t = wordLexeme-token (length w) b w more t p no-comment no-quote no-double e in
+    let o : WordOf rules (length w) (b ∷ w) more t = wordLexeme-token rules (length w) b w more t p no-comment no-quote no-double e in
     record {
       rest = drop (length w) bs;
       bytes =
@@ -192,18 +193,18 @@ word-token b bs more t a no-white no-comment no-quote no-double e =
       formed = o .formed;
     }
 
-pub lexeme-token : (line : Bool) (b : ℕ) (bs : List ℕ) (more : ℕ) (t : Token) → all isAllowed (b ∷ bs) ≡ true → lexeme line b bs ≡ token more t
-    → TokenAt b bs more t
+pub lexeme-token : (rules : Rules) (line : Bool) (b : ℕ) (bs : List ℕ) (more : ℕ) (t : Token) → all isAllowed (b ∷ bs) ≡ true → lexeme rules line b bs ≡ token more t
+    → TokenAt rules b bs more t
 unfolding lexeme wordFrom isWhite isBlank isTerminate opening closing
-lexeme-token line b bs more t a e =
+lexeme-token rules line b bs more t a e =
     cond-cases (isWhite b) _ _ _ e (λ k h. impossible cc)
     (λ no-white e₁.
     cond-cases (eqb b 35) _ _ _ e₁ (λ k h. impossible cc)
     (λ no-comment e₂.
     cond-cases (line && eqb b 59) _ _ _ e₂
-    (λ k h. fieldLexeme-token b bs more t (eqb-true b 59 ((and-eq-true-iff line (eqb b 59)) .0 k .1)) a h)
+    (λ k h. fieldLexeme-token rules b bs more t (eqb-true b 59 ((and-eq-true-iff line (eqb b 59)) .0 k .1)) a h)
     (λ k e₃.
-    cond-cases (eqb b 39) _ _ _ e₃ (λ k h. quotedLexeme-token 9 39 b bs more t (eqb-true b 39 k) refl refl refl single a h)
+    cond-cases (eqb b 39) _ _ _ e₃ (λ k h. quotedLexeme-token rules 9 39 b bs more t (eqb-true b 39 k) refl refl refl single a h)
     (λ no-quote e₄.
-    cond-cases (eqb b 34) _ _ _ e₄ (λ k h. quotedLexeme-token 10 34 b bs more t (eqb-true b 34 k) refl refl refl double a h)
-    (λ no-double e₅. word-token b bs more t a no-white no-comment no-quote no-double e₅)))))
+    cond-cases (eqb b 34) _ _ _ e₄ (λ k h. quotedLexeme-token rules 10 34 b bs more t (eqb-true b 34 k) refl refl refl double a h)
+    (λ no-double e₅. word-token rules b bs more t a no-white no-comment no-quote no-double e₅)))))

@@ -14,6 +14,7 @@ use lib.Seq.{drop-cons, drop-drop, getD-drop}
 use Rattle.star_text.specs.Bytes.{isWhite, Classes, belowIn, run}
 use Rattle.star_text.proofs.Classes.{run-word}
 use Rattle.star_text.proofs.Run.{run-take}
+use Rattle.star_lex.specs.Rules.{Rules}
 use Rattle.star_lex.specs.Tokens.{opening, dataWord, saveWord, loopWord, stopWord, globalWord}
 use Rattle.star_lex.specs.Split.{Lexeme, gap, token, faulty, after, either, quoted, field, whiteNext, limited, blockWord, frameWord, alone, nameWord, referenceWord, wordLexeme, quotedLexeme, fieldLexeme}
 use Rattle.star_lex.specs.Found.{foundAt, endOf, kindOf}
@@ -128,9 +129,9 @@ unfolding either
 either-shaped more size none f other g h = h
 either-shaped more size (some c) f other g h = g c refl
 
-limited-shaped : (more size kind : ℕ) (c : List ℕ) → length (opening kind) + length c ≡ size → Shaped more size (limited more kind c)
+limited-shaped : (rules : Rules) (more size kind : ℕ) (c : List ℕ) → length (opening kind) + length c ≡ size → Shaped more size (limited rules more kind c)
 unfolding limited
-limited-shaped more size kind c e = go (leb (length c) 32)
+limited-shaped rules more size kind c e = go (leb (length c) (rules .longest))
   where
     go : (t : Bool) → Shaped more size (cond t (token more (record { kind = kind; content = c })) (faulty 4))
     go true = (refl, e)
@@ -139,50 +140,50 @@ limited-shaped more size kind c e = go (leb (length c) 32)
 after-length : (p w c : List ℕ) → after p w ≡ some c → length p + length c ≡ length w
 after-length p w c e = sym (ap length (after-append p w c e) ∙ length-append p c)
 
-block-shaped : (more size : ℕ) (c : List ℕ) → 5 + length c ≡ size → Shaped more size (blockWord more c)
+block-shaped : (rules : Rules) (more size : ℕ) (c : List ℕ) → 5 + length c ≡ size → Shaped more size (blockWord rules more c)
 unfolding blockWord opening dataWord
-block-shaped more size [] e = (omega arith, omega arith)
-block-shaped more size (b ∷ c) e = limited-shaped more size 1 (b ∷ c) e
+block-shaped rules more size [] e = (omega arith, omega arith)
+block-shaped rules more size (b ∷ c) e = limited-shaped rules more size 1 (b ∷ c) e
 
-frame-shaped : (more size : ℕ) (c : List ℕ) → 5 + length c ≡ size → Shaped more size (frameWord more c)
+frame-shaped : (rules : Rules) (more size : ℕ) (c : List ℕ) → 5 + length c ≡ size → Shaped more size (frameWord rules more c)
 unfolding frameWord opening saveWord
-frame-shaped more size [] e = (refl, e)
-frame-shaped more size (b ∷ c) e = limited-shaped more size 2 (b ∷ c) e
+frame-shaped rules more size [] e = (refl, e)
+frame-shaped rules more size (b ∷ c) e = limited-shaped rules more size 2 (b ∷ c) e
 
 alone-shaped : (more size kind : ℕ) (w c : List ℕ) → length (opening kind) ≡ 0 → length w + length c ≡ size → Shaped more size (alone more kind w c)
 unfolding alone
 alone-shaped more size kind w [] o e = (refl, omega arith)
 alone-shaped more size kind w (b ∷ c) o e = (omega arith, omega arith)
 
-name-shaped : (more size : ℕ) (c : List ℕ) → 1 + length c ≡ size → Shaped more size (nameWord more c)
+name-shaped : (rules : Rules) (more size : ℕ) (c : List ℕ) → 1 + length c ≡ size → Shaped more size (nameWord rules more c)
 unfolding nameWord opening
-name-shaped more size [] e = (omega arith, omega arith)
-name-shaped more size (b ∷ c) e = limited-shaped more size 6 (95 ∷ b ∷ c) (omega (arith, e))
+name-shaped rules more size [] e = (omega arith, omega arith)
+name-shaped rules more size (b ∷ c) e = limited-shaped rules more size 6 (95 ∷ b ∷ c) (omega (arith, e))
 
 reference-shaped : (more size : ℕ) (c : List ℕ) → 1 + length c ≡ size → Shaped more size (referenceWord more c)
 unfolding referenceWord opening
 reference-shaped more size [] e = (refl, e)
 reference-shaped more size (b ∷ c) e = (refl, e)
 
-pub word-shaped : (more : ℕ) (w : List ℕ) → Shaped more (length w) (wordLexeme more w)
+pub word-shaped : (rules : Rules) (more : ℕ) (w : List ℕ) → Shaped more (length w) (wordLexeme rules more w)
 unfolding wordLexeme dataWord saveWord loopWord stopWord globalWord opening
-word-shaped more w =
-    either-shaped more n (after dataWord w) _ _ (λ c e. block-shaped more n c (after-length dataWord w c e))
-    (either-shaped more n (after saveWord w) _ _ (λ c e. frame-shaped more n c (after-length saveWord w c e))
+word-shaped rules more w =
+    either-shaped more n (after dataWord w) _ _ (λ c e. block-shaped rules more n c (after-length dataWord w c e))
+    (either-shaped more n (after saveWord w) _ _ (λ c e. frame-shaped rules more n c (after-length saveWord w c e))
     (either-shaped more n (after loopWord w) _ _ (λ c e. alone-shaped more n 4 loopWord c refl (after-length loopWord w c e))
     (either-shaped more n (after stopWord w) _ _ (λ c e. alone-shaped more n 5 stopWord c refl (after-length stopWord w c e))
     (either-shaped more n (after globalWord w) _ _ (λ c e. alone-shaped more n 12 globalWord c refl (after-length globalWord w c e))
-    (either-shaped more n (after (95 ∷ []) w) _ _ (λ c e. name-shaped more n c (after-length (95 ∷ []) w c e))
+    (either-shaped more n (after (95 ∷ []) w) _ _ (λ c e. name-shaped rules more n c (after-length (95 ∷ []) w c e))
     (either-shaped more n (after (36 ∷ []) w) _ _ (λ c e. reference-shaped more n c (after-length (36 ∷ []) w c e)) (refl, zero-add n)))))))
   where
     n : ℕ
     n = length w
 
 -- what a word's kind tells of its token at a place
-pub word-found : (at more k : ℕ) (w : List ℕ) → suc more ≡ length w → Kind k ≡ kindOf (wordLexeme more w)
-    → foundAt at (wordLexeme more w) ≡ FoundToken k (at + length (opening k)) (at + 1 + more) (at + 1 + more)
+pub word-found : (rules : Rules) (at more k : ℕ) (w : List ℕ) → suc more ≡ length w → Kind k ≡ kindOf (wordLexeme rules more w)
+    → foundAt at (wordLexeme rules more w) ≡ FoundToken k (at + length (opening k)) (at + 1 + more) (at + 1 + more)
 unfolding foundAt kindOf
-word-found at more k w s e = go (wordLexeme more w) (word-shaped more w) e
+word-found rules at more k w s e = go (wordLexeme rules more w) (word-shaped rules more w) e
   where
     go : (l : Lexeme) → Shaped more (length w) l → Kind k ≡ kindOf l
         → foundAt at l ≡ FoundToken k (at + length (opening k)) (at + 1 + more) (at + 1 + more)
@@ -194,18 +195,18 @@ word-found at more k w s e = go (wordLexeme more w) (word-shaped more w) e
     go (faulty n) h q = impossible cc
 
 -- what stands before a word's content is of the word
-pub word-lead : (more k : ℕ) (w : List ℕ) → Kind k ≡ kindOf (wordLexeme more w) → length (opening k) ≤ length w
+pub word-lead : (rules : Rules) (more k : ℕ) (w : List ℕ) → Kind k ≡ kindOf (wordLexeme rules more w) → length (opening k) ≤ length w
 unfolding kindOf
-word-lead more k w e = go (wordLexeme more w) (word-shaped more w) e
+word-lead rules more k w e = go (wordLexeme rules more w) (word-shaped rules more w) e
   where
     go : (l : Lexeme) → Shaped more (length w) l → Kind k ≡ kindOf l → length (opening k) ≤ length w
     go (gap m) h q = absurd h
     go (token m t) h q = let p : length (opening k) ≡ length (opening (t .kind)) = cc in omega arith
     go (faulty n) h q = impossible cc
 
-pub word-ill : (at more n : ℕ) (w : List ℕ) → Ill n ≡ kindOf (wordLexeme more w) → foundAt at (wordLexeme more w) ≡ Fault n
+pub word-ill : (rules : Rules) (at more n : ℕ) (w : List ℕ) → Ill n ≡ kindOf (wordLexeme rules more w) → foundAt at (wordLexeme rules more w) ≡ Fault n
 unfolding foundAt kindOf
-word-ill at more n w e = go (wordLexeme more w) (word-shaped more w) e
+word-ill rules at more n w e = go (wordLexeme rules more w) (word-shaped rules more w) e
   where
     go : (l : Lexeme) → Shaped more (length w) l → Ill n ≡ kindOf l → foundAt at l ≡ Fault n
     go (gap m) h q = absurd h

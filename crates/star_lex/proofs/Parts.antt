@@ -10,9 +10,10 @@ use native.Mathlib.Omega.{arith}
 use lib.ListN.{length, take, drop, length-append, length-drop}
 use lib.Seq.{drop-drop, drop-append-seam, take-append-seam}
 use Rattle.star_text.specs.Bytes.{isAllowed, all}
+use Rattle.star_lex.specs.Rules.{Rules, today}
 use Rattle.star_lex.specs.Tokens.{Token, Placed, Each, opening, dataWord, saveWord, loopWord, stopWord, globalWord}
-use Rattle.star_lex.specs.Split.{accepted, tokensOf}
-use Rattle.star_lex.specs.WellFormed.{WellFormed, block, frame, frameEnd, loop, stop, name, word, reference, single, double, text, global}
+use Rattle.star_lex.specs.Split.{accepted, tokensBy, tokensOf}
+use Rattle.star_lex.specs.WellFormed.{FormedBy, block, frame, frameEnd, loop, stop, name, word, reference, single, double, text, global}
 use Rattle.star_text.proofs.Bytes.{all-tail}
 use Rattle.star_lex.proofs.Lexemes.{TokenAt, lexeme-token}
 use Rattle.star_lex.proofs.Steps.{Steps, ends, within, passes, takes, accepted-steps, accepted-allowed}
@@ -26,34 +27,40 @@ pub record PartOf (file : List ℕ) (p : Placed) : Type 0 where
 drop-tail : (file : List ℕ) (at b : ℕ) (bs : List ℕ) → drop at file ≡ b ∷ bs → drop (suc at) file ≡ bs
 drop-tail file at b bs e = rw (← (add-one at), ← (drop-drop 1 at file), e)
 
-token-part : (file : List ℕ) (at b : ℕ) (bs : List ℕ) (more : ℕ) (t : Token) → drop at file ≡ b ∷ bs → TokenAt b bs more t
+token-part : (rules : Rules) (file : List ℕ) (at b : ℕ) (bs : List ℕ) (more : ℕ) (t : Token) → drop at file ≡ b ∷ bs → TokenAt rules b bs more t
     → PartOf file (record { at = at; token = t })
-token-part file at b bs more t d k = record {
+token-part rules file at b bs more t d k = record {
   whole = omega (arith, simp length-drop at (ap length d), simp length-append at (ap length (k .bytes)));
   content = rw (← (drop-drop (length (opening (t .kind))) at file), d, k .bytes, drop-append-seam (opening (t .kind)) (t .content ++ k .rest)) (sym (take-append-seam (t .content) (k .rest)));
   first = omega (arith, simp length-drop at (ap length d));
 }
 
 module _ (file : List ℕ) where
-  steps-parts : {skip : ℕ} {line : Bool} {at : ℕ} {bs : List ℕ} {ps : List Placed} → Steps skip line at bs ps → all isAllowed bs ≡ true
+  steps-parts : (rules : Rules) {skip : ℕ} {line : Bool} {at : ℕ} {bs : List ℕ} {ps : List Placed} → Steps rules skip line at bs ps → all isAllowed bs ≡ true
       → drop at file ≡ bs → Each (PartOf file) ps
-  steps-parts ends a d = tt
-  steps-parts (within {at = at} {b = b} {bs = bs} s) a d = steps-parts s (all-tail isAllowed b bs a) (drop-tail file at b bs d)
-  steps-parts (passes {at = at} {b = b} {bs = bs} more e s) a d = steps-parts s (all-tail isAllowed b bs a) (drop-tail file at b bs d)
-  steps-parts (takes {line} {at} {b} {bs} more t e s) a d =
-      (token-part file at b bs more t d (lexeme-token line b bs more t a e), steps-parts s (all-tail isAllowed b bs a) (drop-tail file at b bs d))
+  steps-parts rules ends a d = tt
+  steps-parts rules (within {at = at} {b = b} {bs = bs} s) a d = steps-parts rules s (all-tail isAllowed b bs a) (drop-tail file at b bs d)
+  steps-parts rules (passes {at = at} {b = b} {bs = bs} more e s) a d = steps-parts rules s (all-tail isAllowed b bs a) (drop-tail file at b bs d)
+  steps-parts rules (takes {line} {at} {b} {bs} more t e s) a d =
+      (token-part rules file at b bs more t d (lexeme-token rules line b bs more t a e), steps-parts rules s (all-tail isAllowed b bs a) (drop-tail file at b bs d))
+
+pub parts-by : (rules : Rules) (file : List ℕ) (ps : List Placed) → tokensBy rules file ≡ accepted ps → Each (λ p. PartOf file p) ps
+parts-by rules file ps e = steps-parts file rules (accepted-steps rules file ps e) (accepted-allowed rules file ps e) refl
 
 pub split-parts : (file : List ℕ) (ps : List Placed) → tokensOf file ≡ accepted ps → Each (λ p. PartOf file p) ps
-split-parts file ps e = steps-parts file (accepted-steps file ps e) (accepted-allowed file ps e) refl
+split-parts = parts-by today
 
-steps-count : {skip : ℕ} {line : Bool} {at : ℕ} {bs : List ℕ} {ps : List Placed} → Steps skip line at bs ps → length ps ≤ length bs
-steps-count ends = omega arith
-steps-count (within s) = omega (arith, steps-count s)
-steps-count (passes more e s) = omega (arith, steps-count s)
-steps-count (takes more t e s) = omega (arith, steps-count s)
+steps-count : (rules : Rules) {skip : ℕ} {line : Bool} {at : ℕ} {bs : List ℕ} {ps : List Placed} → Steps rules skip line at bs ps → length ps ≤ length bs
+steps-count rules ends = omega arith
+steps-count rules (within s) = omega (arith, steps-count rules s)
+steps-count rules (passes more e s) = omega (arith, steps-count rules s)
+steps-count rules (takes more t e s) = omega (arith, steps-count rules s)
+
+pub count-by : (rules : Rules) (file : List ℕ) (ps : List Placed) → tokensBy rules file ≡ accepted ps → length ps ≤ length file
+count-by rules file ps e = steps-count rules (accepted-steps rules file ps e)
 
 pub split-count : (file : List ℕ) (ps : List Placed) → tokensOf file ≡ accepted ps → length ps ≤ length file
-split-count file ps e = steps-count (accepted-steps file ps e)
+split-count = count-by today
 
 -- where a token's content ends
 abbrev pub contentEnd : Placed → ℕ
@@ -68,34 +75,37 @@ Ordered-from : (m n : ℕ) (ps : List Placed) → m ≤ n → Ordered n ps → O
 Ordered-from m n [] h o = tt
 Ordered-from m n (p ∷ ps) h o = (omega arith, o .1, o .2)
 
-formed-long : {t : Token} → WellFormed t → 0 < length (opening (t .kind)) + length (t .content)
+formed-long : (rules : Rules) {t : Token} → FormedBy rules t → 0 < length (opening (t .kind)) + length (t .content)
 unfolding opening dataWord saveWord loopWord stopWord globalWord
-formed-long (block x xs e h) = omega arith
-formed-long (frame x xs e h) = omega arith
-formed-long frameEnd = omega arith
-formed-long loop = omega arith
-formed-long stop = omega arith
-formed-long (name x xs e h) = omega arith
-formed-long (word x xs e o) = omega arith
-formed-long (reference x xs e) = omega arith
-formed-long (single c a e) = omega arith
-formed-long (double c a e) = omega arith
-formed-long (text c a e) = omega arith
-formed-long global = omega arith
+formed-long rules (block x xs e h) = omega arith
+formed-long rules (frame x xs e h) = omega arith
+formed-long rules frameEnd = omega arith
+formed-long rules loop = omega arith
+formed-long rules stop = omega arith
+formed-long rules (name x xs e h) = omega arith
+formed-long rules (word x xs e o) = omega arith
+formed-long rules (reference x xs e) = omega arith
+formed-long rules (single c a e) = omega arith
+formed-long rules (double c a e) = omega arith
+formed-long rules (text c a e) = omega arith
+formed-long rules global = omega arith
 
-steps-ordered : {skip : ℕ} {line : Bool} {at : ℕ} {bs : List ℕ} {ps : List Placed} → Steps skip line at bs ps → all isAllowed bs ≡ true
+steps-ordered : (rules : Rules) {skip : ℕ} {line : Bool} {at : ℕ} {bs : List ℕ} {ps : List Placed} → Steps rules skip line at bs ps → all isAllowed bs ≡ true
     → Ordered (at + skip) ps
-steps-ordered ends a = tt
-steps-ordered (within {b = b} {bs = bs} s) a = rw (add-suc, ← suc-add) (steps-ordered s (all-tail isAllowed b bs a))
-steps-ordered (passes {at = at} {b = b} {bs = bs} {ps = ps} more e s) a =
-    Ordered-from (at + 0) (suc at + more) ps (omega arith) (steps-ordered s (all-tail isAllowed b bs a))
-steps-ordered (takes {line} {at} {b} {bs} {ps} more t e s) a =
-    let k : TokenAt b bs more t = lexeme-token line b bs more t a e in
-    let h : 0 < length (opening (t .kind)) + length (t .content) = formed-long (k .formed) in (
+steps-ordered rules ends a = tt
+steps-ordered rules (within {b = b} {bs = bs} s) a = rw (add-suc, ← suc-add) (steps-ordered rules s (all-tail isAllowed b bs a))
+steps-ordered rules (passes {at = at} {b = b} {bs = bs} {ps = ps} more e s) a =
+    Ordered-from (at + 0) (suc at + more) ps (omega arith) (steps-ordered rules s (all-tail isAllowed b bs a))
+steps-ordered rules (takes {line} {at} {b} {bs} {ps} more t e s) a =
+    let k : TokenAt rules b bs more t = lexeme-token rules line b bs more t a e in
+    let h : 0 < length (opening (t .kind)) + length (t .content) = formed-long rules (k .formed) in (
       omega arith,
       omega arith,
-      Ordered-from (contentEnd (record { at = at; token = t })) (suc at + more) ps (omega (arith, k .length-is)) (steps-ordered s (all-tail isAllowed b bs a)),
+      Ordered-from (contentEnd (record { at = at; token = t })) (suc at + more) ps (omega (arith, k .length-is)) (steps-ordered rules s (all-tail isAllowed b bs a)),
     )
 
+pub ordered-by : (rules : Rules) (file : List ℕ) (ps : List Placed) → tokensBy rules file ≡ accepted ps → Ordered 0 ps
+ordered-by rules file ps e = steps-ordered rules (accepted-steps rules file ps e) (accepted-allowed rules file ps e)
+
 pub split-ordered : (file : List ℕ) (ps : List Placed) → tokensOf file ≡ accepted ps → Ordered 0 ps
-split-ordered file ps e = steps-ordered (accepted-steps file ps e) (accepted-allowed file ps e)
+split-ordered = ordered-by today

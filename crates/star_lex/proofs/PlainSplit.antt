@@ -13,35 +13,36 @@ use lib.Dec.{eqb}
 use lib.ListN.{length, length-append}
 use lib.Seq.{drop-append-add}
 use Rattle.star_text.specs.Bytes.{isBlank, isTerminate, isWhite, isPrintable, isAllowed, all, firstRefused}
+use Rattle.star_lex.specs.Rules.{Rules, today}
 use Rattle.star_lex.specs.Tokens.{Token, Placed, Each, opening, dataWord, saveWord, loopWord, stopWord, globalWord}
-use Rattle.star_lex.specs.Split.{token, accepted, after, starts, whiteNext, quoted, limited, blockWord, frameWord, alone, nameWord, referenceWord, either, wordLexeme, wordFrom, quotedLexeme, fieldLexeme, lexeme, moreOf, before, enter, split, tokensOf}
+use Rattle.star_lex.specs.Split.{token, accepted, after, starts, whiteNext, quoted, limited, blockWord, frameWord, alone, nameWord, referenceWord, either, wordLexeme, wordFrom, quotedLexeme, fieldLexeme, lexeme, moreOf, before, enter, split, tokensBy, tokensOf}
 use Rattle.star_lex.specs.Plain.{closing, indent, plainToken, plainOf}
-use Rattle.star_lex.specs.WellFormed.{WellFormed, Ordinary, quotable, fieldable, block, frame, frameEnd, loop, stop, name, word, reference, single, double, text, global}
+use Rattle.star_lex.specs.WellFormed.{FormedBy, WellFormed, Ordinary, quotable, fieldable, block, frame, frameEnd, loop, stop, name, word, reference, single, double, text, global}
 use Rattle.star_text.proofs.Bytes.{eqb-comm, printable-not-white, printable-allowed, not-white-not-terminate, all-head, all-tail, all-append, all-cond, all-implies, run-append, run-all}
 use Rattle.star_lex.proofs.Delimited.{quoted-append, field-append}
 
 -- the split goes over bytes that belong to a lexeme already read
-pub split-skip : (xs rest : List ℕ) (at : ℕ) → split (length xs) false at (xs ++ rest) ≡ split 0 false (at + length xs) rest
+pub split-skip : (rules : Rules) (xs rest : List ℕ) (at : ℕ) → split rules (length xs) false at (xs ++ rest) ≡ split rules 0 false (at + length xs) rest
 unfolding split
-split-skip [] rest at = rw add-zero
-split-skip (x ∷ xs) rest at = rw (add-suc, ← suc-add) (split-skip xs rest (suc at))
+split-skip rules [] rest at = rw add-zero
+split-skip rules (x ∷ xs) rest at = rw (add-suc, ← suc-add) (split-skip rules xs rest (suc at))
 
 -- a token with its delimiters
 abbrev body : Token → List ℕ
 body t = opening (t .kind) ++ (t .content ++ closing (t .kind))
 
 -- at the first byte of a token before a line end, the split finds that token
-record Reads (line : Bool) (t : Token) : Type 0 where
+record Reads (rules : Rules) (line : Bool) (t : Token) : Type 0 where
   first : ℕ
   others : List ℕ
   bytes : body t ≡ first ∷ others
   stays : isTerminate first ≡ false
-  reads : (rest : List ℕ) → lexeme line first (others ++ 10 ∷ rest) ≡ token (length others) t
+  reads : (rest : List ℕ) → lexeme rules line first (others ++ 10 ∷ rest) ≡ token (length others) t
 
-split-body : (line : Bool) (t : Token) (at : ℕ) (rest : List ℕ) → Reads line t
-    → split 0 line at (body t ++ 10 ∷ rest) ≡ before (record { at = at; token = t }) (split 0 true (suc (at + length (body t))) rest)
+split-body : (rules : Rules) (line : Bool) (t : Token) (at : ℕ) (rest : List ℕ) → Reads rules line t
+    → split rules 0 line at (body t ++ 10 ∷ rest) ≡ before (record { at = at; token = t }) (split rules 0 true (suc (at + length (body t))) rest)
 unfolding split enter moreOf lexeme isWhite isBlank isTerminate
-split-body line t at rest r = rw (r .bytes) (rw (r .reads rest, r .stays) (rw (split-skip (r .others) (10 ∷ rest) (suc at), add-suc, suc-add)))
+split-body rules line t at rest r = rw (r .bytes) (rw (r .reads rest, r .stays) (rw (split-skip rules (r .others) (10 ∷ rest) (suc at), add-suc, suc-add)))
 
 -- a word's first byte opens nothing else
 record Opens (line : Bool) (b : ℕ) : Type 0 where
@@ -51,10 +52,10 @@ record Opens (line : Bool) (b : ℕ) : Type 0 where
   no-quote : eqb b 39 ≡ false
   no-double : eqb b 34 ≡ false
 
-lexeme-word : (line : Bool) (b : ℕ) (xs rest : List ℕ) → Opens line b → all isPrintable xs ≡ true
-    → lexeme line b (xs ++ 10 ∷ rest) ≡ wordLexeme (length xs) (b ∷ xs)
+lexeme-word : (rules : Rules) (line : Bool) (b : ℕ) (xs rest : List ℕ) → Opens line b → all isPrintable xs ≡ true
+    → lexeme rules line b (xs ++ 10 ∷ rest) ≡ wordLexeme rules (length xs) (b ∷ xs)
 unfolding lexeme wordFrom isWhite isBlank isTerminate
-lexeme-word line b xs rest o e =
+lexeme-word rules line b xs rest o e =
     rw (
       o .no-white,
       o .no-comment,
@@ -64,85 +65,85 @@ lexeme-word line b xs rest o e =
       run-append (λ c. not (isWhite c)) xs 10 rest (all-implies isPrintable (λ c. not (isWhite c)) (λ c q. ap not (printable-not-white c q)) xs e) refl,
     )
 
-reads-word : (line : Bool) (b : ℕ) (xs : List ℕ) (t : Token) → Opens line b → all isPrintable xs ≡ true → body t ≡ b ∷ xs
-    → wordLexeme (length xs) (b ∷ xs) ≡ token (length xs) t → Reads line t
-reads-word line b xs t o e h k = record {
+reads-word : (rules : Rules) (line : Bool) (b : ℕ) (xs : List ℕ) (t : Token) → Opens line b → all isPrintable xs ≡ true → body t ≡ b ∷ xs
+    → wordLexeme rules (length xs) (b ∷ xs) ≡ token (length xs) t → Reads rules line t
+reads-word rules line b xs t o e h k = record {
   first = b;
   others = xs;
   bytes = h;
   stays = not-white-not-terminate b (o .no-white);
-  reads = λ rest. lexeme-word line b xs rest o e ∙ k;
+  reads = λ rest. lexeme-word rules line b xs rest o e ∙ k;
 }
 
-reads-block : (x : ℕ) (xs : List ℕ) → all isPrintable (x ∷ xs) ≡ true → length (x ∷ xs) ≤ 32
-    → Reads true (record { kind = 1; content = x ∷ xs })
+reads-block : (rules : Rules) (x : ℕ) (xs : List ℕ) → all isPrintable (x ∷ xs) ≡ true → length (x ∷ xs) ≤ rules .longest
+    → Reads rules true (record { kind = 1; content = x ∷ xs })
 unfolding opening closing dataWord wordLexeme either after blockWord limited isWhite isBlank isTerminate all isPrintable
-reads-block x xs e h =
-    reads-word true 100 (97 ∷ 116 ∷ 97 ∷ 95 ∷ x ∷ xs) _ (search) e (rw append-nil) (rw (le-leb (length (x ∷ xs)) 32 h))
+reads-block rules x xs e h =
+    reads-word rules true 100 (97 ∷ 116 ∷ 97 ∷ 95 ∷ x ∷ xs) _ (search) e (rw append-nil) (rw (le-leb (length (x ∷ xs)) (rules .longest) h))
 
-reads-frame : (x : ℕ) (xs : List ℕ) → all isPrintable (x ∷ xs) ≡ true → length (x ∷ xs) ≤ 32
-    → Reads true (record { kind = 2; content = x ∷ xs })
+reads-frame : (rules : Rules) (x : ℕ) (xs : List ℕ) → all isPrintable (x ∷ xs) ≡ true → length (x ∷ xs) ≤ rules .longest
+    → Reads rules true (record { kind = 2; content = x ∷ xs })
 unfolding opening closing dataWord saveWord wordLexeme either after frameWord limited isWhite isBlank isTerminate all isPrintable
-reads-frame x xs e h =
-    reads-word true 115 (97 ∷ 118 ∷ 101 ∷ 95 ∷ x ∷ xs) _ (search) e (rw append-nil) (rw (le-leb (length (x ∷ xs)) 32 h))
+reads-frame rules x xs e h =
+    reads-word rules true 115 (97 ∷ 118 ∷ 101 ∷ 95 ∷ x ∷ xs) _ (search) e (rw append-nil) (rw (le-leb (length (x ∷ xs)) (rules .longest) h))
 
-reads-frame-end : Reads true (record { kind = 3; content = saveWord })
+reads-frame-end : (rules : Rules) → Reads rules true (record { kind = 3; content = saveWord })
 unfolding opening closing dataWord saveWord wordLexeme either after frameWord isWhite isBlank isTerminate all isPrintable
-reads-frame-end = reads-word true 115 (97 ∷ 118 ∷ 101 ∷ 95 ∷ []) _ (search) refl refl refl
+reads-frame-end rules = reads-word rules true 115 (97 ∷ 118 ∷ 101 ∷ 95 ∷ []) _ (search) refl refl refl
 
-reads-loop : Reads true (record { kind = 4; content = loopWord })
+reads-loop : (rules : Rules) → Reads rules true (record { kind = 4; content = loopWord })
 unfolding opening closing dataWord saveWord loopWord wordLexeme either after alone isWhite isBlank isTerminate all isPrintable
-reads-loop = reads-word true 108 (111 ∷ 111 ∷ 112 ∷ 95 ∷ []) _ (search) refl refl refl
+reads-loop rules = reads-word rules true 108 (111 ∷ 111 ∷ 112 ∷ 95 ∷ []) _ (search) refl refl refl
 
-reads-stop : Reads true (record { kind = 5; content = stopWord })
+reads-stop : (rules : Rules) → Reads rules true (record { kind = 5; content = stopWord })
 unfolding opening closing dataWord saveWord loopWord stopWord wordLexeme either after alone isWhite isBlank isTerminate all isPrintable
-reads-stop = reads-word true 115 (116 ∷ 111 ∷ 112 ∷ 95 ∷ []) _ (search) refl refl refl
+reads-stop rules = reads-word rules true 115 (116 ∷ 111 ∷ 112 ∷ 95 ∷ []) _ (search) refl refl refl
 
-reads-global : Reads true (record { kind = 12; content = globalWord })
+reads-global : (rules : Rules) → Reads rules true (record { kind = 12; content = globalWord })
 unfolding opening closing dataWord saveWord loopWord stopWord globalWord wordLexeme either after alone isWhite isBlank isTerminate all isPrintable
-reads-global = reads-word true 103 (108 ∷ 111 ∷ 98 ∷ 97 ∷ 108 ∷ 95 ∷ []) _ (search) refl refl refl
+reads-global rules = reads-word rules true 103 (108 ∷ 111 ∷ 98 ∷ 97 ∷ 108 ∷ 95 ∷ []) _ (search) refl refl refl
 
-reads-name : (x : ℕ) (xs : List ℕ) → all isPrintable (x ∷ xs) ≡ true → length (95 ∷ x ∷ xs) ≤ 32
-    → Reads true (record { kind = 6; content = 95 ∷ x ∷ xs })
+reads-name : (rules : Rules) (x : ℕ) (xs : List ℕ) → all isPrintable (x ∷ xs) ≡ true → length (95 ∷ x ∷ xs) ≤ rules .longest
+    → Reads rules true (record { kind = 6; content = 95 ∷ x ∷ xs })
 unfolding opening closing dataWord saveWord loopWord stopWord globalWord wordLexeme either after nameWord limited isWhite isBlank isTerminate
-reads-name x xs e h =
-    reads-word true 95 (x ∷ xs) _ (search) e (rw append-nil) (rw (le-leb (length (95 ∷ x ∷ xs)) 32 h))
+reads-name rules x xs e h =
+    reads-word rules true 95 (x ∷ xs) _ (search) e (rw append-nil) (rw (le-leb (length (95 ∷ x ∷ xs)) (rules .longest) h))
 
-reads-reference : (x : ℕ) (xs : List ℕ) → all isPrintable (x ∷ xs) ≡ true → Reads true (record { kind = 8; content = x ∷ xs })
+reads-reference : (rules : Rules) (x : ℕ) (xs : List ℕ) → all isPrintable (x ∷ xs) ≡ true → Reads rules true (record { kind = 8; content = x ∷ xs })
 unfolding opening closing dataWord saveWord loopWord stopWord globalWord wordLexeme either after referenceWord isWhite isBlank isTerminate
-reads-reference x xs e =
-    reads-word true 36 (x ∷ xs) _ (search) e (rw append-nil) refl
+reads-reference rules x xs e =
+    reads-word rules true 36 (x ∷ xs) _ (search) e (rw append-nil) refl
 
-wordLexeme-ordinary : (more x : ℕ) (xs : List ℕ) → Ordinary x xs → wordLexeme more (x ∷ xs) ≡ token more (record { kind = 7; content = x ∷ xs })
+wordLexeme-ordinary : (rules : Rules) (more x : ℕ) (xs : List ℕ) → Ordinary x xs → wordLexeme rules more (x ∷ xs) ≡ token more (record { kind = 7; content = x ∷ xs })
 unfolding wordLexeme either after referenceWord
-wordLexeme-ordinary more x xs o =
+wordLexeme-ordinary rules more x xs o =
     rw (o .no-data, o .no-save, o .no-loop, o .no-stop, o .no-global, eqb-comm 95 x, o .no-name, eqb-comm 36 x) (go (eqb x 36) refl)
   where
     go : (t : Bool) → eqb x 36 ≡ t → either (cond t (some xs) none) (referenceWord more) (token more (record { kind = 7; content = x ∷ xs })) ≡ token more (record { kind = 7; content = x ∷ xs })
     go true q = rw (o .no-reference q, eqb-true x 36 q)
     go false q = refl
 
-reads-ordinary : (line : Bool) (x : ℕ) (xs : List ℕ) → all isPrintable (x ∷ xs) ≡ true → Ordinary x xs → (line && eqb x 59) ≡ false
-    → Reads line (record { kind = 7; content = x ∷ xs })
+reads-ordinary : (rules : Rules) (line : Bool) (x : ℕ) (xs : List ℕ) → all isPrintable (x ∷ xs) ≡ true → Ordinary x xs → (line && eqb x 59) ≡ false
+    → Reads rules line (record { kind = 7; content = x ∷ xs })
 unfolding opening closing
-reads-ordinary line x xs e o n =
-    reads-word line x xs _
+reads-ordinary rules line x xs e o n =
+    reads-word rules line x xs _
     (record {
       no-white = printable-not-white x (all-head isPrintable x xs e);
       no-comment = o .no-comment;
       no-text = n;
       no-quote = o .no-quote;
       no-double = o .no-double;
-    }) (all-tail isPrintable x xs e) (rw append-nil) (wordLexeme-ordinary (length xs) x xs o)
+    }) (all-tail isPrintable x xs e) (rw append-nil) (wordLexeme-ordinary rules (length xs) x xs o)
 
 quotedLexeme-append : (kind q : ℕ) (c rest : List ℕ) → isWhite q ≡ false → quotable q c ≡ true
     → quotedLexeme kind (quoted q ((c ++ q ∷ []) ++ 10 ∷ rest)) ≡ token (length (c ++ q ∷ [])) (record { kind = kind; content = c })
 unfolding quotedLexeme
 quotedLexeme-append kind q c rest w e = rw (append-assoc, quoted-append q c rest w e, length-append, add-one)
 
-reads-single : (c : List ℕ) → quotable 39 c ≡ true → Reads true (record { kind = 9; content = c })
+reads-single : (rules : Rules) (c : List ℕ) → quotable 39 c ≡ true → Reads rules true (record { kind = 9; content = c })
 unfolding opening closing lexeme isWhite isBlank isTerminate
-reads-single c e = record {
+reads-single rules c e = record {
   first = 39;
   others = c ++ 39 ∷ [];
   bytes = refl;
@@ -150,9 +151,9 @@ reads-single c e = record {
   reads = λ rest. quotedLexeme-append 9 39 c rest refl e;
 }
 
-reads-double : (c : List ℕ) → quotable 34 c ≡ true → Reads true (record { kind = 10; content = c })
+reads-double : (rules : Rules) (c : List ℕ) → quotable 34 c ≡ true → Reads rules true (record { kind = 10; content = c })
 unfolding opening closing lexeme isWhite isBlank isTerminate
-reads-double c e = record {
+reads-double rules c e = record {
   first = 34;
   others = c ++ 34 ∷ [];
   bytes = refl;
@@ -160,9 +161,9 @@ reads-double c e = record {
   reads = λ rest. quotedLexeme-append 10 34 c rest refl e;
 }
 
-reads-text : (c : List ℕ) → fieldable c ≡ true → Reads true (record { kind = 11; content = c })
+reads-text : (rules : Rules) (c : List ℕ) → fieldable c ≡ true → Reads rules true (record { kind = 11; content = c })
 unfolding opening closing lexeme fieldLexeme whiteNext isWhite isBlank isTerminate
-reads-text c e = record {
+reads-text rules c e = record {
   first = 59;
   others = c ++ 10 ∷ 59 ∷ [];
   bytes = refl;
@@ -171,28 +172,28 @@ reads-text c e = record {
 }
 
 -- a token's bytes stand at the line's start or after one blank, and are read there
-data Stands (t : Token) : Type 0 where
-  bare : indent t ≡ [] → Reads true t → Stands t
-  indented : indent t ≡ 32 ∷ [] → Reads false t → Stands t
+data Stands (rules : Rules) (t : Token) : Type 0 where
+  bare : indent t ≡ [] → Reads rules true t → Stands rules t
+  indented : indent t ≡ 32 ∷ [] → Reads rules false t → Stands rules t
 
-stands : {t : Token} → WellFormed t → Stands t
+stands : (rules : Rules) {t : Token} → FormedBy rules t → Stands rules t
 unfolding indent starts
-stands (block x xs e h) = bare refl (reads-block x xs e h)
-stands (frame x xs e h) = bare refl (reads-frame x xs e h)
-stands frameEnd = bare refl reads-frame-end
-stands loop = bare refl reads-loop
-stands stop = bare refl reads-stop
-stands (name x xs e h) = bare refl (reads-name x xs e h)
-stands (word x xs e o) = go (eqb x 59) refl
+stands rules (block x xs e h) = bare refl (reads-block rules x xs e h)
+stands rules (frame x xs e h) = bare refl (reads-frame rules x xs e h)
+stands rules frameEnd = bare refl (reads-frame-end rules)
+stands rules loop = bare refl (reads-loop rules)
+stands rules stop = bare refl (reads-stop rules)
+stands rules (name x xs e h) = bare refl (reads-name rules x xs e h)
+stands rules (word x xs e o) = go (eqb x 59) refl
   where
-    go : (t : Bool) → eqb x 59 ≡ t → Stands (record { kind = 7; content = x ∷ xs })
-    go true q = indented (rw q) (reads-ordinary false x xs e o refl)
-    go false q = bare (rw q) (reads-ordinary true x xs e o q)
-stands (reference x xs e) = bare refl (reads-reference x xs e)
-stands (single c a e) = bare refl (reads-single c e)
-stands (double c a e) = bare refl (reads-double c e)
-stands (text c a e) = bare refl (reads-text c e)
-stands global = bare refl reads-global
+    go : (t : Bool) → eqb x 59 ≡ t → Stands rules (record { kind = 7; content = x ∷ xs })
+    go true q = indented (rw q) (reads-ordinary rules false x xs e o refl)
+    go false q = bare (rw q) (reads-ordinary rules true x xs e o q)
+stands rules (reference x xs e) = bare refl (reads-reference rules x xs e)
+stands rules (single c a e) = bare refl (reads-single rules c e)
+stands rules (double c a e) = bare refl (reads-double rules c e)
+stands rules (text c a e) = bare refl (reads-text rules c e)
+stands rules global = bare refl (reads-global rules)
 
 plainToken-append : (t : Token) (rest : List ℕ) → plainToken t ++ rest ≡ indent t ++ (body t ++ 10 ∷ rest)
 unfolding plainToken
@@ -203,40 +204,40 @@ unfolding plainToken
 length-plainToken t = simp length-append (omega arith)
 
 -- a token's plain form at a line's start: its first byte comes after what indents it
-split-plain : (t : Token) (at : ℕ) (rest : List ℕ) → Stands t
-    → split 0 true at (plainToken t ++ rest)
-    ≡ before (record { at = at + length (indent t); token = t }) (split 0 true (at + length (plainToken t)) rest)
+split-plain : (rules : Rules) (t : Token) (at : ℕ) (rest : List ℕ) → Stands rules t
+    → split rules 0 true at (plainToken t ++ rest)
+    ≡ before (record { at = at + length (indent t); token = t }) (split rules 0 true (at + length (plainToken t)) rest)
 unfolding split enter moreOf lexeme isWhite isBlank isTerminate
-split-plain t at rest (bare e r) = rw (plainToken-append, length-plainToken, e) (rw (split-body true t at rest r, add-zero, zero-add, add-suc))
-split-plain t at rest (indented e r) =
+split-plain rules t at rest (bare e r) = rw (plainToken-append, length-plainToken, e) (rw (split-body rules true t at rest r, add-zero, zero-add, add-suc))
+split-plain rules t at rest (indented e r) =
     let q : suc (suc at + length (body t)) ≡ at + (1 + suc (length (body t))) = omega arith in
-    rw (plainToken-append, length-plainToken, e) (rw (split-body false t (suc at) rest r, q, add-one))
+    rw (plainToken-append, length-plainToken, e) (rw (split-body rules false t (suc at) rest r, q, add-one))
 
-split-plainOf : (ts : List Token) (at : ℕ) → Each WellFormed ts
-    → (ps : List Placed) × (split 0 true at (plainOf ts) ≡ accepted ps) × (map (λ p. p .token) ps ≡ ts)
+split-plainOf : (rules : Rules) (ts : List Token) (at : ℕ) → Each (FormedBy rules) ts
+    → (ps : List Placed) × (split rules 0 true at (plainOf ts) ≡ accepted ps) × (map (λ p. p .token) ps ≡ ts)
 unfolding plainOf flatMap split before
-split-plainOf [] at ws = ([], refl, refl)
-split-plainOf (t ∷ ts) at ws =
-    let (ps, e, h) = split-plainOf ts (at + length (plainToken t)) (ws .1) in
-    (record { at = at + length (indent t); token = t } ∷ ps, rw (split-plain t at (plainOf ts) (stands (ws .0)), e), rw h)
+split-plainOf rules [] at ws = ([], refl, refl)
+split-plainOf rules (t ∷ ts) at ws =
+    let (ps, e, h) = split-plainOf rules ts (at + length (plainToken t)) (ws .1) in
+    (record { at = at + length (indent t); token = t } ∷ ps, rw (split-plain rules t at (plainOf ts) (stands rules (ws .0)), e), rw h)
 
 printables-allowed : (xs : List ℕ) → all isPrintable xs ≡ true → all isAllowed xs ≡ true
 printables-allowed = all-implies isPrintable isAllowed printable-allowed
 
-allowed-content : {t : Token} → WellFormed t → all isAllowed (t .content) ≡ true
+allowed-content : (rules : Rules) {t : Token} → FormedBy rules t → all isAllowed (t .content) ≡ true
 unfolding all isAllowed saveWord loopWord stopWord globalWord
-allowed-content (block x xs e h) = printables-allowed (x ∷ xs) e
-allowed-content (frame x xs e h) = printables-allowed (x ∷ xs) e
-allowed-content frameEnd = refl
-allowed-content loop = refl
-allowed-content stop = refl
-allowed-content (name x xs e h) = printables-allowed (x ∷ xs) e
-allowed-content (word x xs e o) = printables-allowed (x ∷ xs) e
-allowed-content (reference x xs e) = printables-allowed (x ∷ xs) e
-allowed-content (single c a e) = a
-allowed-content (double c a e) = a
-allowed-content (text c a e) = a
-allowed-content global = refl
+allowed-content rules (block x xs e h) = printables-allowed (x ∷ xs) e
+allowed-content rules (frame x xs e h) = printables-allowed (x ∷ xs) e
+allowed-content rules frameEnd = refl
+allowed-content rules loop = refl
+allowed-content rules stop = refl
+allowed-content rules (name x xs e h) = printables-allowed (x ∷ xs) e
+allowed-content rules (word x xs e o) = printables-allowed (x ∷ xs) e
+allowed-content rules (reference x xs e) = printables-allowed (x ∷ xs) e
+allowed-content rules (single c a e) = a
+allowed-content rules (double c a e) = a
+allowed-content rules (text c a e) = a
+allowed-content rules global = refl
 
 allowed-opening : (kind : ℕ) → all isAllowed (opening kind) ≡ true
 unfolding opening all isAllowed dataWord saveWord
@@ -250,17 +251,20 @@ allowed-indent : (t : Token) → all isAllowed (indent t) ≡ true
 unfolding indent all isAllowed
 allowed-indent t = search (all-cond isAllowed) depth 8
 
-allowed-plain : {t : Token} → WellFormed t → all isAllowed (plainToken t) ≡ true
+allowed-plain : (rules : Rules) {t : Token} → FormedBy rules t → all isAllowed (plainToken t) ≡ true
 unfolding plainToken all isAllowed
-allowed-plain {t} w = simp (all-append isAllowed, allowed-indent t, allowed-opening (t .kind), allowed-content w, allowed-closing (t .kind))
+allowed-plain rules {t} w = simp (all-append isAllowed, allowed-indent t, allowed-opening (t .kind), allowed-content rules w, allowed-closing (t .kind))
 
-allowed-plainOf : (ts : List Token) → Each WellFormed ts → all isAllowed (plainOf ts) ≡ true
+allowed-plainOf : (rules : Rules) (ts : List Token) → Each (FormedBy rules) ts → all isAllowed (plainOf ts) ≡ true
 unfolding plainOf flatMap all
-allowed-plainOf [] ws = refl
-allowed-plainOf (t ∷ ts) ws = rw (all-append isAllowed, allowed-plain (ws .0), allowed-plainOf ts (ws .1))
+allowed-plainOf rules [] ws = refl
+allowed-plainOf rules (t ∷ ts) ws = rw (all-append isAllowed, allowed-plain rules (ws .0), allowed-plainOf rules ts (ws .1))
+
+pub lex-plain-by : (rules : Rules) (ts : List Token) → Each (FormedBy rules) ts → (ps : List Placed) × (tokensBy rules (plainOf ts) ≡ accepted ps) × (map (λ p. p .token) ps ≡ ts)
+unfolding tokensBy firstRefused
+lex-plain-by rules ts ws =
+    let (ps, e, h) = split-plainOf rules ts 0 ws in
+    (ps, rw (run-all isAllowed (plainOf ts) (allowed-plainOf rules ts ws), le-ltb (length (plainOf ts)) (length (plainOf ts)) (omega arith)) e, h)
 
 pub lex-plain : (ts : List Token) → Each WellFormed ts → (ps : List Placed) × (tokensOf (plainOf ts) ≡ accepted ps) × (map (λ p. p .token) ps ≡ ts)
-unfolding tokensOf firstRefused
-lex-plain ts ws =
-    let (ps, e, h) = split-plainOf ts 0 ws in
-    (ps, rw (run-all isAllowed (plainOf ts) (allowed-plainOf ts ws), le-ltb (length (plainOf ts)) (length (plainOf ts)) (omega arith)) e, h)
+lex-plain = lex-plain-by today

@@ -14,6 +14,7 @@ use Rattle.star_rows.specs.Rows.{putRow, stored}
 use Rattle.star_rows.proofs.Stored.{stored-none, stored-more}
 use Rattle.star_text.specs.Bytes.{isBlank, isTerminate, isWhite, run}
 use Rattle.star_text.proofs.Run.{run-length}
+use Rattle.star_lex.specs.Rules.{today}
 use Rattle.star_lex.specs.Tokens.{Token, Placed, opening, tokenRow}
 use Rattle.star_lex.specs.Split.{Lexeme, gap, token, faulty, Split, refused, accepted, whiteNext, quoted, field, quotedLexeme, fieldLexeme, wordLexeme, wordFrom, lexeme, moreOf, before, enter, split}
 use Rattle.star_lex.specs.Found.{foundAt}
@@ -23,19 +24,19 @@ use Rattle.star_lex.proofs.Delimited.{quoted-some, field-some}
 use Rattle.star_lex.proofs.Lexing.{Shaped, word-shaped}
 
 -- bytes that belong to a lexeme already read are passed over
-split-skip-false : (n at : ℕ) (bs : List ℕ) → split n false at bs ≡ split 0 false (at + n) (drop n bs)
+split-skip-false : (n at : ℕ) (bs : List ℕ) → split today n false at bs ≡ split today 0 false (at + n) (drop n bs)
 unfolding split
 split-skip-false zero at bs = rw add-zero
 split-skip-false (suc n) at [] = refl
 split-skip-false (suc n) at (b ∷ bs) = rw (add-suc, ← suc-add) (split-skip-false n (suc at) bs)
 
-split-skip : (n at : ℕ) (line : Bool) (bs : List ℕ) → (line ≡ true → n ≡ 0) → split n line at bs ≡ split 0 line (at + n) (drop n bs)
+split-skip : (n at : ℕ) (line : Bool) (bs : List ℕ) → (line ≡ true → n ≡ 0) → split today n line at bs ≡ split today 0 line (at + n) (drop n bs)
 unfolding split
 split-skip n at false bs h = split-skip-false n at bs
 split-skip n at true bs h = rw (h refl, add-zero)
 
 -- a terminate is a lexeme by itself
-terminate-alone : (line : Bool) (b : ℕ) (bs : List ℕ) → isTerminate b ≡ true → moreOf (lexeme line b bs) ≡ 0
+terminate-alone : (line : Bool) (b : ℕ) (bs : List ℕ) → isTerminate b ≡ true → moreOf (lexeme today line b bs) ≡ 0
 unfolding lexeme moreOf isWhite
 terminate-alone line b bs e = rw (e, or-true)
 
@@ -43,19 +44,19 @@ drop-here : (file : List ℕ) (at : ℕ) → at < length file → drop at file �
 drop-here file at h = drop-cons file at 0 h ∙ ap (λ n. getD file at 0 ∷ drop n file) (sym (add-one at))
 
 pub split-at : (file : List ℕ) (at : ℕ) (line : Bool) → at < length file
-    → split 0 line at (drop at file)
-    ≡ enter at (lexeme line (getD file at 0) (drop (at + 1) file))
-    (split 0 (isTerminate (getD file at 0)) (at + 1 + moreOf (lexeme line (getD file at 0) (drop (at + 1) file)))
-    (drop (at + 1 + moreOf (lexeme line (getD file at 0) (drop (at + 1) file))) file))
+    → split today 0 line at (drop at file)
+    ≡ enter at (lexeme today line (getD file at 0) (drop (at + 1) file))
+    (split today 0 (isTerminate (getD file at 0)) (at + 1 + moreOf (lexeme today line (getD file at 0) (drop (at + 1) file)))
+    (drop (at + 1 + moreOf (lexeme today line (getD file at 0) (drop (at + 1) file))) file))
 unfolding split
 split-at file at line h =
     let b : ℕ = getD file at 0 in
-    let n : ℕ = moreOf (lexeme line b (drop (at + 1) file)) in
+    let n : ℕ = moreOf (lexeme today line b (drop (at + 1) file)) in
     rw (drop-here file at h)
-    (ap (enter at (lexeme line b (drop (at + 1) file)))
-    (ap (λ k. split n (isTerminate b) k (drop (at + 1) file)) (sym (add-one at))
+    (ap (enter at (lexeme today line b (drop (at + 1) file)))
+    (ap (λ k. split today n (isTerminate b) k (drop (at + 1) file)) (sym (add-one at))
     ∙ split-skip n (at + 1) (isTerminate b) (drop (at + 1) file) (terminate-alone line b (drop (at + 1) file))
-    ∙ ap (split 0 (isTerminate b) (at + 1 + n)) (drop-drop n (at + 1) file)))
+    ∙ ap (split today 0 (isTerminate b) (at + 1 + n)) (drop-drop n (at + 1) file)))
 
 -- tokens before what follows them
 abbrev pub allBefore : List Placed → Split → Split
@@ -103,8 +104,8 @@ quoted-within q kind bs (some c) w k e =
     let n : length bs ≡ length c + suc (length rest) = simp length-append at (ap length s) in
     (omega arith, omega arith)
 
-run-within : (p : ℕ → Bool) (b : ℕ) (bs : List ℕ) → Within (length bs) (wordLexeme (length (run p bs)) (b ∷ run p bs))
-run-within p b bs = go (wordLexeme (length w) (b ∷ w)) (word-shaped (length w) (b ∷ w)) (run-length p bs)
+run-within : (p : ℕ → Bool) (b : ℕ) (bs : List ℕ) → Within (length bs) (wordLexeme today (length (run p bs)) (b ∷ run p bs))
+run-within p b bs = go (wordLexeme today (length w) (b ∷ w)) (word-shaped today (length w) (b ∷ w)) (run-length p bs)
   where
     w : List ℕ
     w = run p bs
@@ -114,11 +115,11 @@ run-within p b bs = go (wordLexeme (length w) (b ∷ w)) (word-shaped (length w)
     go (token m t) h k = (omega arith, omega arith)
     go (faulty n) h k = h
 
-word-within : (b : ℕ) (bs : List ℕ) → Within (length bs) (wordFrom b bs)
+word-within : (b : ℕ) (bs : List ℕ) → Within (length bs) (wordFrom today b bs)
 unfolding wordFrom
 word-within b bs = run-within _ b bs
 
-pub lexeme-within : (line : Bool) (b : ℕ) (bs : List ℕ) → Within (length bs) (lexeme line b bs)
+pub lexeme-within : (line : Bool) (b : ℕ) (bs : List ℕ) → Within (length bs) (lexeme today line b bs)
 unfolding lexeme opening isWhite isBlank isTerminate
 lexeme-within line b bs =
     cond-within n (isWhite b) _ _ (λ e. zero-le)
@@ -153,13 +154,13 @@ enter-refused at size (faulty m) w n place f e =
     (omega arith, omega arith, omega arith, omega arith)
 
 -- the split refuses with 3 to 6 alone, at a byte of the file
-pub split-refused : (skip : ℕ) (line : Bool) (at : ℕ) (bs : List ℕ) (n place : ℕ) → split skip line at bs ≡ refused n place
+pub split-refused : (skip : ℕ) (line : Bool) (at : ℕ) (bs : List ℕ) (n place : ℕ) → split today skip line at bs ≡ refused n place
     → Faulty at (length bs) n place
 unfolding split
 split-refused skip line at [] n place e = impossible cc
 split-refused zero line at (b ∷ bs) n place e =
-    enter-refused at (length bs) (lexeme line b bs) (lexeme-within line b bs) n place
-    (split-refused (moreOf (lexeme line b bs)) (isTerminate b) (suc at) bs n place) e
+    enter-refused at (length bs) (lexeme today line b bs) (lexeme-within line b bs) n place
+    (split-refused (moreOf (lexeme today line b bs)) (isTerminate b) (suc at) bs n place) e
 split-refused (suc skip) line at (b ∷ bs) n place e = later-faulty at (length bs) n place (split-refused skip false (suc at) bs n place e)
 
 -- what is found tells the lexeme
@@ -198,7 +199,7 @@ fault-of at n (faulty m) e = let q : m ≡ n = cc in ap faulty q
 -- the tokens found so far, and what is left
 pub record Progress (file table₀ table : List ℕ) (at count : ℕ) (line : Bool) : Type 0 where
   pub done : List Placed
-  pub so-far : split 0 true 0 file ≡ allBefore done (split 0 line at (drop at file))
+  pub so-far : split today 0 true 0 file ≡ allBefore done (split today 0 line at (drop at file))
   pub counted : count ≡ length done
   pub rows : table ≡ stored 3 tokenRow done table₀
   pub few : count ≤ at
@@ -223,21 +224,21 @@ module _ (file table₀ table : List ℕ) (at count : ℕ) (line : Bool) (p : Pr
   rest = drop (at + 1) file
 
   here : Lexeme
-  here = lexeme line (getD file at 0) rest
+  here = lexeme today line (getD file at 0) rest
 
-  after-here : (l : Lexeme) → here ≡ l → split 0 true 0 file
-      ≡ allBefore (p .done) (enter at l (split 0 (isTerminate (getD file at 0)) (at + 1 + moreOf l) (drop (at + 1 + moreOf l) file)))
+  after-here : (l : Lexeme) → here ≡ l → split today 0 true 0 file
+      ≡ allBefore (p .done) (enter at l (split today 0 (isTerminate (getD file at 0)) (at + 1 + moreOf l) (drop (at + 1 + moreOf l) file)))
   unfolding here rest
   after-here l e =
       p .so-far
       ∙ ap (allBefore (p .done)) (split-at file at line h
-      ∙ ap (λ m. enter at m (split 0 (isTerminate (getD file at 0)) (at + 1 + moreOf m) (drop (at + 1 + moreOf m) file))) e)
+      ∙ ap (λ m. enter at m (split today 0 (isTerminate (getD file at 0)) (at + 1 + moreOf m) (drop (at + 1 + moreOf m) file))) e)
 
   room : (l : Lexeme) → here ≡ l → Within (length file - (at + 1)) l
   unfolding here rest
   room l e = subst (Within (length file - (at + 1))) e (rw (length-drop (at + 1) file) at (lexeme-within line (getD file at 0) rest))
 
-  pub turn-gap : (next : ℕ) → foundAt at (lexeme line (getD file at 0) (drop (at + 1) file)) ≡ Gap next
+  pub turn-gap : (next : ℕ) → foundAt at (lexeme today line (getD file at 0) (drop (at + 1) file)) ≡ Gap next
       → Progress file table₀ table next count (isTerminate (getD file at 0)) × (at < next)
   unfolding here rest enter moreOf
   turn-gap next e =
@@ -245,7 +246,7 @@ module _ (file table₀ table : List ℕ) (at count : ℕ) (line : Bool) (p : Pr
       let t : Bool = isTerminate (getD file at 0) in (
         record {
           done = p .done;
-          so-far = after-here (gap m) q ∙ ap (λ n. allBefore (p .done) (split 0 t n (drop n file))) (sym r);
+          so-far = after-here (gap m) q ∙ ap (λ n. allBefore (p .done) (split today 0 t n (drop n file))) (sym r);
           counted = p .counted;
           rows = p .rows;
           few = omega (arith, p .few);
@@ -254,7 +255,7 @@ module _ (file table₀ table : List ℕ) (at count : ℕ) (line : Bool) (p : Pr
         omega arith,
       )
 
-  pub turn-token : (k start end next : ℕ) → foundAt at (lexeme line (getD file at 0) (drop (at + 1) file)) ≡ FoundToken k start end next
+  pub turn-token : (k start end next : ℕ) → foundAt at (lexeme today line (getD file at 0) (drop (at + 1) file)) ≡ FoundToken k start end next
       → Progress file table₀ (putRow (k ∷ start ∷ end ∷ []) count table) next (count + 1) (isTerminate (getD file at 0))
       × (at < next) × (start ≤ length file) × (end ≤ length file)
   unfolding here rest enter moreOf
@@ -268,7 +269,7 @@ module _ (file table₀ table : List ℕ) (at count : ℕ) (line : Bool) (p : Pr
           so-far =
               after-here (token (f .more) (f .found)) (f .is)
               ∙ sym (all-before-snoc (p .done) q _)
-              ∙ ap (λ n. allBefore (p .done ++ (q ∷ [])) (split 0 t n (drop n file))) (sym (f .past));
+              ∙ ap (λ n. allBefore (p .done ++ (q ∷ [])) (split today 0 t n (drop n file))) (sym (f .past));
           counted = rw length-append (omega (arith, p .counted));
           rows =
               ap (λ r. putRow r count table) (f .row)
@@ -283,13 +284,13 @@ module _ (file table₀ table : List ℕ) (at count : ℕ) (line : Bool) (p : Pr
         omega (arith, w .0, w .1, f .begins, f .ends),
       )
 
-  pub turn-fault : (n : ℕ) → foundAt at (lexeme line (getD file at 0) (drop (at + 1) file)) ≡ Fault n → split 0 true 0 file ≡ refused n at
+  pub turn-fault : (n : ℕ) → foundAt at (lexeme today line (getD file at 0) (drop (at + 1) file)) ≡ Fault n → split today 0 true 0 file ≡ refused n at
   unfolding here rest enter
   turn-fault n e = after-here (faulty n) (fault-of at n here e) ∙ all-before-refused (p .done) n at
 
 -- nothing is left
 pub finished : (file table₀ table : List ℕ) (at count : ℕ) (line : Bool) (p : Progress file table₀ table at count line) → length file ≤ at
-    → split 0 true 0 file ≡ accepted (p .done)
+    → split today 0 true 0 file ≡ accepted (p .done)
 unfolding split
 finished file table₀ table at count line p h =
-    p .so-far ∙ ap (λ r. allBefore (p .done) (split 0 line at r)) (drop-of-length-le file h) ∙ all-before-accepted (p .done)
+    p .so-far ∙ ap (λ r. allBefore (p .done) (split today 0 line at r)) (drop-of-length-le file h) ∙ all-before-accepted (p .done)

@@ -10,6 +10,7 @@ use borrow.Author.Tests.{eq-eqb, ne-eqb, leb-true, leb-false, eqb-true}
 use lib.Dec.{eqb, leb}
 use lib.ListN.{length, getD, drop, drop-of-length-le}
 use lib.Seq.{drop-cons}
+use Rattle.star_lex.specs.Rules.{Rules}
 use Rattle.star_lex.specs.Tokens.{dataWord, saveWord, loopWord, stopWord, globalWord}
 use Rattle.star_lex.specs.Split.{token, after, either, alone, blockWord, frameWord, nameWord, referenceWord, limited, wordLexeme}
 use Rattle.star_lex.specs.Found.{isSome}
@@ -80,35 +81,35 @@ after-long p w e = go (leb (length p) (length w)) refl
         impossible cc
 
 -- a code or more letters of a name
-pub block-some : (more : ℕ) (r : List ℕ) → 0 < length r → blockWord more r ≡ limited more 1 r
+pub block-some : (rules : Rules) (more : ℕ) (r : List ℕ) → 0 < length r → blockWord rules more r ≡ limited rules more 1 r
 unfolding blockWord
-block-some more [] h = absurd (not-suc-le-zero h)
-block-some more (b ∷ r) h = refl
+block-some rules more [] h = absurd (not-suc-le-zero h)
+block-some rules more (b ∷ r) h = refl
 
-pub frame-some : (more : ℕ) (r : List ℕ) → 0 < length r → frameWord more r ≡ limited more 2 r
+pub frame-some : (rules : Rules) (more : ℕ) (r : List ℕ) → 0 < length r → frameWord rules more r ≡ limited rules more 2 r
 unfolding frameWord
-frame-some more [] h = absurd (not-suc-le-zero h)
-frame-some more (b ∷ r) h = refl
+frame-some rules more [] h = absurd (not-suc-le-zero h)
+frame-some rules more (b ∷ r) h = refl
 
 -- the rules for words, in their order
-module _ (more : ℕ) (w : List ℕ) where
-  pub word-data : isSome (after dataWord w) ≡ true → wordLexeme more w ≡ blockWord more (drop 5 w)
+module _ (rules : Rules) (more : ℕ) (w : List ℕ) where
+  pub word-data : isSome (after dataWord w) ≡ true → wordLexeme rules more w ≡ blockWord rules more (drop 5 w)
   unfolding wordLexeme either dataWord
   word-data e = rw (after-some dataWord w e)
 
-  pub word-save : isSome (after dataWord w) ≡ false → isSome (after saveWord w) ≡ true → wordLexeme more w ≡ frameWord more (drop 5 w)
+  pub word-save : isSome (after dataWord w) ≡ false → isSome (after saveWord w) ≡ true → wordLexeme rules more w ≡ frameWord rules more (drop 5 w)
   unfolding wordLexeme either saveWord
   word-save n0 e = rw (after-none dataWord w n0, after-some saveWord w e)
 
-  pub word-loop : isSome (after dataWord w) ≡ false → isSome (after saveWord w) ≡ false → isSome (after loopWord w) ≡ true → wordLexeme more w ≡ alone more 4 loopWord (drop 5 w)
+  pub word-loop : isSome (after dataWord w) ≡ false → isSome (after saveWord w) ≡ false → isSome (after loopWord w) ≡ true → wordLexeme rules more w ≡ alone more 4 loopWord (drop 5 w)
   unfolding wordLexeme either loopWord
   word-loop n0 n1 e = rw (after-none dataWord w n0, after-none saveWord w n1, after-some loopWord w e)
 
-  pub word-stop : isSome (after dataWord w) ≡ false → isSome (after saveWord w) ≡ false → isSome (after loopWord w) ≡ false → isSome (after stopWord w) ≡ true → wordLexeme more w ≡ alone more 5 stopWord (drop 5 w)
+  pub word-stop : isSome (after dataWord w) ≡ false → isSome (after saveWord w) ≡ false → isSome (after loopWord w) ≡ false → isSome (after stopWord w) ≡ true → wordLexeme rules more w ≡ alone more 5 stopWord (drop 5 w)
   unfolding wordLexeme either stopWord
   word-stop n0 n1 n2 e = rw (after-none dataWord w n0, after-none saveWord w n1, after-none loopWord w n2, after-some stopWord w e)
 
-  pub word-global : isSome (after dataWord w) ≡ false → isSome (after saveWord w) ≡ false → isSome (after loopWord w) ≡ false → isSome (after stopWord w) ≡ false → isSome (after globalWord w) ≡ true → wordLexeme more w ≡ alone more 12 globalWord (drop 7 w)
+  pub word-global : isSome (after dataWord w) ≡ false → isSome (after saveWord w) ≡ false → isSome (after loopWord w) ≡ false → isSome (after stopWord w) ≡ false → isSome (after globalWord w) ≡ true → wordLexeme rules more w ≡ alone more 12 globalWord (drop 7 w)
   unfolding wordLexeme either globalWord
   word-global n0 n1 n2 n3 e = rw (after-none dataWord w n0, after-none saveWord w n1, after-none loopWord w n2, after-none stopWord w n3, after-some globalWord w e)
 
@@ -120,16 +121,16 @@ pub record NoKeyword (w : List ℕ) : Type 0 where
   pub no-stop : isSome (after stopWord w) ≡ false
   pub no-global : isSome (after globalWord w) ≡ false
 
-module _ (more : ℕ) (w : List ℕ) (k : NoKeyword w) where
-  pub word-name : isSome (after (95 ∷ []) w) ≡ true → wordLexeme more w ≡ nameWord more (drop 1 w)
+module _ (rules : Rules) (more : ℕ) (w : List ℕ) (k : NoKeyword w) where
+  pub word-name : isSome (after (95 ∷ []) w) ≡ true → wordLexeme rules more w ≡ nameWord rules more (drop 1 w)
   unfolding wordLexeme either
   word-name e = rw (after-none dataWord w (k .no-data), after-none saveWord w (k .no-save), after-none loopWord w (k .no-loop), after-none stopWord w (k .no-stop), after-none globalWord w (k .no-global), after-some (95 ∷ []) w e)
 
-  pub word-reference : isSome (after (95 ∷ []) w) ≡ false → isSome (after (36 ∷ []) w) ≡ true → wordLexeme more w ≡ referenceWord more (drop 1 w)
+  pub word-reference : isSome (after (95 ∷ []) w) ≡ false → isSome (after (36 ∷ []) w) ≡ true → wordLexeme rules more w ≡ referenceWord more (drop 1 w)
   unfolding wordLexeme either
   word-reference n e = rw (after-none dataWord w (k .no-data), after-none saveWord w (k .no-save), after-none loopWord w (k .no-loop), after-none stopWord w (k .no-stop), after-none globalWord w (k .no-global), after-none (95 ∷ []) w n, after-some (36 ∷ []) w e)
 
-  pub word-ordinary : isSome (after (95 ∷ []) w) ≡ false → isSome (after (36 ∷ []) w) ≡ false → wordLexeme more w ≡ token more (record { kind = 7; content = w })
+  pub word-ordinary : isSome (after (95 ∷ []) w) ≡ false → isSome (after (36 ∷ []) w) ≡ false → wordLexeme rules more w ≡ token more (record { kind = 7; content = w })
   unfolding wordLexeme either
   word-ordinary n m = rw (after-none dataWord w (k .no-data), after-none saveWord w (k .no-save), after-none loopWord w (k .no-loop), after-none stopWord w (k .no-stop), after-none globalWord w (k .no-global), after-none (95 ∷ []) w n, after-none (36 ∷ []) w m)
 
@@ -155,10 +156,10 @@ no-keyword w d s l g = record {
   no-global = after-first 103 _ w g;
 }
 
-pub name-some : (more : ℕ) (r : List ℕ) → 0 < length r → nameWord more r ≡ limited more 6 (95 ∷ r)
+pub name-some : (rules : Rules) (more : ℕ) (r : List ℕ) → 0 < length r → nameWord rules more r ≡ limited rules more 6 (95 ∷ r)
 unfolding nameWord
-name-some more [] h = absurd (not-suc-le-zero h)
-name-some more (b ∷ r) h = refl
+name-some rules more [] h = absurd (not-suc-le-zero h)
+name-some rules more (b ∷ r) h = refl
 
 pub reference-some : (more : ℕ) (r : List ℕ) → 0 < length r → referenceWord more r ≡ token more (record { kind = 8; content = r })
 unfolding referenceWord

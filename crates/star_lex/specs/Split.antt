@@ -6,6 +6,7 @@ use Prim.Native.Nat.{ℕ, zero, suc, _+_}
 use lib.Dec.{eqb, leb, ltb}
 use lib.ListN.{length, drop}
 use Rattle.star_text.specs.Bytes.{isTerminate, isWhite, run, firstRefused}
+use Rattle.star_lex.specs.Rules.{Rules, today}
 use Rattle.star_lex.specs.Tokens.{Token, Placed, dataWord, saveWord, loopWord, stopWord, globalWord}
 
 -- what stands at a place outside tokens: white space or a comment; a token; or refusal 3 to 6. With how many bytes follow its first.
@@ -47,18 +48,18 @@ unfoldable pub field : List ℕ → Option (List ℕ)
 field [] = none
 field (b ∷ bs) = cond (isTerminate b && starts 59 bs) (some []) (Option·map (λ c. b ∷ c) (field bs))
 
--- a name or code of over 32 bytes is refusal 4
-unfoldable pub limited : ℕ → ℕ → List ℕ → Lexeme
-limited more kind content = cond (leb (length content) 32) (token more (record { kind = kind; content = content })) (faulty 4)
+-- a name or code of more bytes than the rules allow is refusal 4
+unfoldable pub limited : (rules : Rules) → ℕ → ℕ → List ℕ → Lexeme
+limited rules more kind content = cond (leb (length content) (rules .longest)) (token more (record { kind = kind; content = content })) (faulty 4)
 
 -- a heading's code, from after its `data_`
-unfoldable pub blockWord : ℕ → List ℕ → Lexeme
-blockWord more [] = faulty 3
-blockWord more (b ∷ bs) = limited more 1 (b ∷ bs)
+unfoldable pub blockWord : (rules : Rules) → ℕ → List ℕ → Lexeme
+blockWord rules more [] = faulty 3
+blockWord rules more (b ∷ bs) = limited rules more 1 (b ∷ bs)
 
-unfoldable pub frameWord : ℕ → List ℕ → Lexeme
-frameWord more [] = token more (record { kind = 3; content = saveWord })
-frameWord more (b ∷ bs) = limited more 2 (b ∷ bs)
+unfoldable pub frameWord : (rules : Rules) → ℕ → List ℕ → Lexeme
+frameWord rules more [] = token more (record { kind = 3; content = saveWord })
+frameWord rules more (b ∷ bs) = limited rules more 2 (b ∷ bs)
 
 -- a word that stands alone: anything after it is ill formed
 unfoldable pub alone : ℕ → ℕ → List ℕ → List ℕ → Lexeme
@@ -66,9 +67,9 @@ alone more kind word [] = token more (record { kind = kind; content = word })
 alone more kind word (b ∷ bs) = faulty 3
 
 -- a name, from after its underscore
-unfoldable pub nameWord : ℕ → List ℕ → Lexeme
-nameWord more [] = faulty 3
-nameWord more (b ∷ bs) = limited more 6 (95 ∷ b ∷ bs)
+unfoldable pub nameWord : (rules : Rules) → ℕ → List ℕ → Lexeme
+nameWord rules more [] = faulty 3
+nameWord rules more (b ∷ bs) = limited rules more 6 (95 ∷ b ∷ bs)
 
 -- what follows `$`
 unfoldable pub referenceWord : ℕ → List ℕ → Lexeme
@@ -80,20 +81,20 @@ either none f other = other
 either (some bs) f other = f bs
 
 -- a word by its bytes: kinds 1 to 8 and 12, or ill formed
-unfoldable pub wordLexeme : ℕ → List ℕ → Lexeme
-wordLexeme more w =
-    either (after dataWord w) (blockWord more)
-    (either (after saveWord w) (frameWord more)
+unfoldable pub wordLexeme : (rules : Rules) → ℕ → List ℕ → Lexeme
+wordLexeme rules more w =
+    either (after dataWord w) (blockWord rules more)
+    (either (after saveWord w) (frameWord rules more)
     (either (after loopWord w) (alone more 4 loopWord)
     (either (after stopWord w) (alone more 5 stopWord)
     (either (after globalWord w) (alone more 12 globalWord)
-    (either (after (95 ∷ []) w) (nameWord more)
+    (either (after (95 ∷ []) w) (nameWord rules more)
     (either (after (36 ∷ []) w) (referenceWord more)
     (token more (record { kind = 7; content = w }))))))))
 
 -- a word: all bytes up to white space or the end
-unfoldable pub wordFrom : ℕ → List ℕ → Lexeme
-wordFrom b bs = let w : List ℕ = run (λ c. not (isWhite c)) bs in wordLexeme (length w) (b ∷ w)
+unfoldable pub wordFrom : (rules : Rules) → ℕ → List ℕ → Lexeme
+wordFrom rules b bs = let w : List ℕ = run (λ c. not (isWhite c)) bs in wordLexeme rules (length w) (b ∷ w)
 
 unfoldable pub quotedLexeme : ℕ → Option (List ℕ) → Lexeme
 quotedLexeme kind none = faulty 5
@@ -106,14 +107,14 @@ fieldLexeme (some c) bs =
     cond (whiteNext (drop (length c + 2) bs)) (token (length c + 2) (record { kind = 11; content = c })) (faulty 6)
 
 -- at a token's start, the first rule that fits holds: whether the byte is the first of its line, the byte, and those after it
-unfoldable pub lexeme : Bool → ℕ → List ℕ → Lexeme
-lexeme line b bs =
+unfoldable pub lexeme : (rules : Rules) → Bool → ℕ → List ℕ → Lexeme
+lexeme rules line b bs =
     cond (isWhite b) (gap 0)
     (cond (eqb b 35) (gap (length (run (λ c. not (isTerminate c)) bs)))
     (cond (line && eqb b 59) (fieldLexeme (field bs) bs)
     (cond (eqb b 39) (quotedLexeme 9 (quoted 39 bs))
     (cond (eqb b 34) (quotedLexeme 10 (quoted 34 bs))
-    (wordFrom b bs)))))
+    (wordFrom rules b bs)))))
 
 unfoldable pub moreOf : Lexeme → ℕ
 moreOf (gap more) = more
@@ -132,14 +133,18 @@ enter at (token more t) rest = before (record { at = at; token = t }) rest
 enter at (faulty n) rest = refused n at
 
 -- what is left of a file, of which the next bytes belong to a lexeme already read: whether a line starts here, and the offset
-unfoldable pub split : (skip : ℕ) → (line : Bool) → (at : ℕ) → List ℕ → Split
-split skip line at [] = accepted []
-split zero line at (b ∷ bs) = let l : Lexeme = lexeme line b bs in enter at l (split (moreOf l) (isTerminate b) (suc at) bs)
-split (suc skip) line at (b ∷ bs) = split skip false (suc at) bs
+unfoldable pub split : (rules : Rules) → (skip : ℕ) → (line : Bool) → (at : ℕ) → List ℕ → Split
+split rules skip line at [] = accepted []
+split rules zero line at (b ∷ bs) = let l : Lexeme = lexeme rules line b bs in enter at l (split rules (moreOf l) (isTerminate b) (suc at) bs)
+split rules (suc skip) line at (b ∷ bs) = split rules skip false (suc at) bs
 
 -- refusal 2 over the whole file, then the first faulty token of 3 to 6; the start of the file counts as a line start
-unfoldable pub tokensOf : List ℕ → Split
-tokensOf file = cond (ltb (firstRefused file) (length file)) (refused 2 (firstRefused file)) (split 0 true 0 file)
+unfoldable pub tokensBy : (rules : Rules) → List ℕ → Split
+tokensBy rules file = cond (ltb (firstRefused file) (length file)) (refused 2 (firstRefused file)) (split rules 0 true 0 file)
+
+-- by today's rules
+abbrev pub tokensOf : List ℕ → Split
+tokensOf file = tokensBy today file
 
 -- the tokens, none where the file is refused
 unfoldable pub placed : Split → List Placed

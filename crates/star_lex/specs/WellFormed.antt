@@ -7,6 +7,7 @@ use Prim.Native.Nat.{ℕ, _≤_}
 use lib.Dec.{eqb}
 use lib.ListN.{length}
 use Rattle.star_text.specs.Bytes.{isTerminate, isWhite, isPrintable, isAllowed, all}
+use Rattle.star_lex.specs.Rules.{Rules, today}
 use Rattle.star_lex.specs.Tokens.{Token, dataWord, saveWord, loopWord, stopWord, globalWord}
 use Rattle.star_lex.specs.Split.{after, starts}
 
@@ -38,22 +39,26 @@ pub record Ordinary (first : ℕ) (others : List ℕ) : Type 0 where
   pub no-stop : after stopWord (first ∷ others) ≡ none
   pub no-global : after globalWord (first ∷ others) ≡ none
 
--- the contents that each kind may have
-pub data WellFormed : Token → Type 0 where
-  block : (first : ℕ) (others : List ℕ) → all isPrintable (first ∷ others) ≡ true → length (first ∷ others) ≤ 32
-      → WellFormed (record { kind = 1; content = first ∷ others })
-  frame : (first : ℕ) (others : List ℕ) → all isPrintable (first ∷ others) ≡ true → length (first ∷ others) ≤ 32
-      → WellFormed (record { kind = 2; content = first ∷ others })
-  frameEnd : WellFormed (record { kind = 3; content = saveWord })
-  loop : WellFormed (record { kind = 4; content = loopWord })
-  stop : WellFormed (record { kind = 5; content = stopWord })
-  name : (first : ℕ) (others : List ℕ) → all isPrintable (first ∷ others) ≡ true → length (95 ∷ first ∷ others) ≤ 32
-      → WellFormed (record { kind = 6; content = 95 ∷ first ∷ others })
+-- the contents that each kind may have, by the rules
+pub data FormedBy (rules : Rules) : Token → Type 0 where
+  block : (first : ℕ) (others : List ℕ) → all isPrintable (first ∷ others) ≡ true → length (first ∷ others) ≤ rules .longest
+      → FormedBy rules (record { kind = 1; content = first ∷ others })
+  frame : (first : ℕ) (others : List ℕ) → all isPrintable (first ∷ others) ≡ true → length (first ∷ others) ≤ rules .longest
+      → FormedBy rules (record { kind = 2; content = first ∷ others })
+  frameEnd : FormedBy rules (record { kind = 3; content = saveWord })
+  loop : FormedBy rules (record { kind = 4; content = loopWord })
+  stop : FormedBy rules (record { kind = 5; content = stopWord })
+  name : (first : ℕ) (others : List ℕ) → all isPrintable (first ∷ others) ≡ true → length (95 ∷ first ∷ others) ≤ rules .longest
+      → FormedBy rules (record { kind = 6; content = 95 ∷ first ∷ others })
   word : (first : ℕ) (others : List ℕ) → all isPrintable (first ∷ others) ≡ true → Ordinary first others
-      → WellFormed (record { kind = 7; content = first ∷ others })
+      → FormedBy rules (record { kind = 7; content = first ∷ others })
   reference : (first : ℕ) (others : List ℕ) → all isPrintable (first ∷ others) ≡ true
-      → WellFormed (record { kind = 8; content = first ∷ others })
-  single : (c : List ℕ) → all isAllowed c ≡ true → quotable 39 c ≡ true → WellFormed (record { kind = 9; content = c })
-  double : (c : List ℕ) → all isAllowed c ≡ true → quotable 34 c ≡ true → WellFormed (record { kind = 10; content = c })
-  text : (c : List ℕ) → all isAllowed c ≡ true → fieldable c ≡ true → WellFormed (record { kind = 11; content = c })
-  global : WellFormed (record { kind = 12; content = globalWord })
+      → FormedBy rules (record { kind = 8; content = first ∷ others })
+  single : (c : List ℕ) → all isAllowed c ≡ true → quotable 39 c ≡ true → FormedBy rules (record { kind = 9; content = c })
+  double : (c : List ℕ) → all isAllowed c ≡ true → quotable 34 c ≡ true → FormedBy rules (record { kind = 10; content = c })
+  text : (c : List ℕ) → all isAllowed c ≡ true → fieldable c ≡ true → FormedBy rules (record { kind = 11; content = c })
+  global : FormedBy rules (record { kind = 12; content = globalWord })
+
+-- by today's rules
+abbrev pub WellFormed : Token → Type 0
+WellFormed t = FormedBy today t

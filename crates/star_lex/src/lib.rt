@@ -11,6 +11,8 @@ ghost use Rattle.star_rows.specs.Rows.{stored};
 ghost use mathlib.Core.Bool.{true, false, _&&_};
 ghost use lib.Dec.{eqb};
 ghost use Rattle.star_text.specs.Bytes.{mostBytes, Classes, isWhite};
+ghost use Rattle.star_text.specs.Bytes.{Classes, isWhite};
+ghost use Rattle.star_lex.specs.Rules.{today};
 ghost use Rattle.star_lex.specs.Tokens.{Placed, tokenRow, opening};
 ghost use Rattle.star_lex.specs.Split.{refused, accepted, quoted, field, fieldLexeme, quotedLexeme, wordFrom, split as Split·split, lexeme as Split·lexeme};
 ghost use Rattle.star_lex.specs.Found.{tokensIn, answerOf, tableOf, foundAt};
@@ -88,7 +90,7 @@ fn word_at(classes: &[u8; 256], file: &[u8], at: usize) -> Found
     requires { ⌜ at < length (now file) ⌝ }
     requires { ⌜ isWhite (getD (now file) at 0) ≡ false ⌝ }
     requires { ⌜ Classes (now classes) ⌝ }
-    ensures { λ r. ⌜ r ≡ foundAt at (wordFrom (getD (now (file .entry)) at 0) (drop (at + 1) (now (file .entry)))) ⌝ }
+    ensures { λ r. ⌜ r ≡ foundAt at (wordFrom today (getD (now (file .entry)) at 0) (drop (at + 1) (now (file .entry)))) ⌝ }
 {
     let end = star_text::run_end(classes, file, at + 1, BLANK);
     match word::word_kind(&file[at..end]) {
@@ -113,7 +115,7 @@ fn opens_field(line: bool, b: u8) -> bool
 fn lexeme(classes: &[u8; 256], file: &[u8], at: usize, line: bool) -> Found
     requires { ⌜ at < length (now file) ⌝ }
     requires { ⌜ Classes (now classes) ⌝ }
-    ensures { λ r. ⌜ r ≡ foundAt at (Split·lexeme line (getD (now (file .entry)) at 0) (drop (at + 1) (now (file .entry)))) ⌝ }
+    ensures { λ r. ⌜ r ≡ foundAt at (Split·lexeme today line (getD (now (file .entry)) at 0) (drop (at + 1) (now (file .entry)))) ⌝ }
 {
     let b = file[at];
     if star_text::is_white(classes, b) {
@@ -138,8 +140,8 @@ fn lexeme(classes: &[u8; 256], file: &[u8], at: usize, line: bool) -> Found
 fn split(classes: &[u8; 256], file: &[u8], table: &mut [u32]) -> Tokens
     requires { ⌜ length (now file) ≤ mostBytes ⌝ }
     requires { ⌜ Classes (now classes) ⌝ }
-    ensures { λ r. ⌜ r ≡ answerOf (Split·split 0 true 0 (now (file .entry))) ⌝ }
-    ensures { λ _. ⌜ ((ps : List Placed) → Split·split 0 true 0 (now (file .entry)) ≡ accepted ps
+    ensures { λ r. ⌜ r ≡ answerOf (Split·split today 0 true 0 (now (file .entry))) ⌝ }
+    ensures { λ _. ⌜ ((ps : List Placed) → Split·split today 0 true 0 (now (file .entry)) ≡ accepted ps
         → now (table .exit) ≡ stored 3 tokenRow ps (now (table .entry))) ⌝ }
 {
     let mut at = 0;

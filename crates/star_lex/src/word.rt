@@ -4,6 +4,7 @@ ghost use mathlib.Core.Bool.{false};
 ghost use mathlib.Core.List.{List, [], _∷_};
 ghost use Prim.Native.Nat.{ℕ, _<_};
 ghost use lib.ListN.{length};
+ghost use Rattle.star_lex.specs.Rules.{today};
 ghost use Rattle.star_lex.specs.Tokens.{opening};
 ghost use Rattle.star_lex.specs.Split.{after, limited, wordLexeme, alone as Split·alone};
 ghost use Rattle.star_lex.specs.Found.{isSome, kindOf};
@@ -57,7 +58,7 @@ fn begins(word: &[u8], first: &[u8]) -> bool
 
 // A name or code of so many bytes.
 fn limit(kind: u32, len: usize) -> Word
-    ensures { λ r. ⌜ ((more : ℕ) (content : List ℕ) → length content ≡ len → r ≡ kindOf (limited more kind content)) ⌝ }
+    ensures { λ r. ⌜ ((more : ℕ) (content : List ℕ) → length content ≡ len → r ≡ kindOf (limited today more kind content)) ⌝ }
 {
     if LONGEST < len {
         Word::Ill(4)
@@ -81,7 +82,7 @@ fn alone(kind: u32, rest: usize) -> Word
 fn keyword(word: &[u8]) -> Word
     requires { ⌜ isSome (after (95 ∷ []) (now word)) ≡ false ⌝ }
     requires { ⌜ isSome (after (36 ∷ []) (now word)) ≡ false ⌝ }
-    ensures { λ r. ⌜ ((more : ℕ) → r ≡ kindOf (wordLexeme more (now (word .entry)))) ⌝ }
+    ensures { λ r. ⌜ ((more : ℕ) → r ≡ kindOf (wordLexeme today more (now (word .entry)))) ⌝ }
 {
     let len = word.len();
     if begins(word, b"data_") {
@@ -110,7 +111,7 @@ fn keyword(word: &[u8]) -> Word
 
 // The kind of a word.
 pub(crate) fn word_kind(word: &[u8]) -> Word
-    ensures { λ r. ⌜ ((more : ℕ) → r ≡ kindOf (wordLexeme more (now (word .entry)))) ⌝ }
+    ensures { λ r. ⌜ ((more : ℕ) → r ≡ kindOf (wordLexeme today more (now (word .entry)))) ⌝ }
 {
     let len = word.len();
     if len == 0 {

@@ -88,14 +88,14 @@ module _ (rules : Rules) (least : 1 ≤ rules .levels) (p : List Token) (h : Eac
   completed x w =
       let t : Token = record { kind = 6; content = x } in
       let s : (ps : List Placed) × (tokensOf (plainOf (p ++ completion st t)) ≡ Split.accepted ps) × (tokensOnly ps ≡ p ++ completion st t)
-      = lex-plain (p ++ completion st t) (each-append WellFormed p (completion st t) .1 (h, formed-completion st t w)) in
+      = lex-plain (p ++ completion st t) (each-append WellFormed p (completion st t) .1 (h, formed-completion today st t w)) in
       let a : (f : File) × (fileYield f ≡ p ++ completion st t) × FileBy rules f
-      = rest-alive rules least p (each-fixed p h) st r e t (record { kind6 = refl }) in
+      = rest-alive rules least p (each-fixed today p h) st r e t (record { kind6 = refl }) in
       record { tokens = s .0; splits = s .1; are = s .2; tree = a .0; yield = a .1 ∙ sym (s .2); whole = a .2 }
 
 pub walks-shape : (rules : Rules) → 1 ≤ rules .levels → (p : List Token) → Each WellFormed p → Walks rules start p noRows → BeginsShape rules p
 walks-shape rules least p h k =
-    let n : (x : List ℕ) × WellFormed (record { kind = 6; content = x }) × (List·Memᴰ x [] → ⊥) = fresh-name-of 1 [] (omega arith) (omega arith) (omega arith) in
+    let n : (x : List ℕ) × WellFormed (record { kind = 6; content = x }) × (List·Memᴰ x [] → ⊥) = fresh-name-of today 1 [] (omega arith) (omega arith) (omega arith) in
     let t : Token = record { kind = 6; content = n .0 } in
     let c : Completed rules p (k .0) t = completed rules least p h (k .0) (k .1) (k .2) (n .0) (n .1) in
     record {
@@ -112,7 +112,7 @@ walks-shape rules least p h k =
 pub walks-begins : (p : List Token) → Each WellFormed p → length p ≤ mostBytes → Walks today start p noRows → Clean nothing p → Begins p
 walks-begins p h l k c =
     let n : (x : List ℕ) × WellFormed (record { kind = 6; content = x }) × (List·Memᴰ x (namesIn p) → ⊥)
-    = fresh-name-of 21 (namesIn p) (omega arith) (omega arith) (omega (arith, names-count p)) in
+    = fresh-name-of today 21 (namesIn p) (omega arith) (omega arith) (omega (arith, names-count p)) in
     let t : Token = record { kind = 6; content = n .0 } in
     let d : Completed today p (k .0) t = completed today (omega arith) p h (k .0) (k .1) (k .2) (n .0) (n .1) in
     record {

@@ -45,7 +45,7 @@ module _ (p : List Token) (formed : Each WellFormed p) (st : State) (r : Rows) (
       halted today start st p x noRows r 10 w (ap (λ k. step today st k r) (sort-name x n) ∙ packet-name today st r h) (shape-walks today (p ++ (x ∷ [])) b)
 
   value-since : InPacket st → ValueSince p
-  value-since h = marks-since p (each-fixed p formed) (packet-marked st (marks false p) h (walk-marked today start st p noRows r false w refl))
+  value-since h = marks-since p (each-fixed today p formed) (packet-marked st (marks false p) h (walk-marked today start st p noRows r false w refl))
 
   -- after a token of this kind a file may go on
   goes-on : (limit : ℕ) → today .levels ≤ limit → (t : Token) → WellFormed t → (s : State) (u : Rows)
@@ -60,11 +60,11 @@ module _ (p : List Token) (formed : Each WellFormed p) (st : State) (r : Rows) (
       at : Outside st → ⊥
       at (Outside.valueless f) =
           let a : marks false p ≡ false = f (marks false p) (walk-marked today start st p noRows r false w refl) in
-          let b : marks false p ≡ true = since-marks p (each-fixed p formed) v in
+          let b : marks false p ≡ true = since-marks p (each-fixed today p formed) v in
           impossible cc
       at (Outside.nameable f) =
           let x : (x : List ℕ) × WellFormed (record { kind = 6; content = x }) × (List·Memᴰ x [] → ⊥)
-          = fresh-name-of 1 [] (omega arith) (omega arith) (omega arith) in
+          = fresh-name-of today 1 [] (omega arith) (omega arith) (omega arith) in
           let t : Token = record { kind = 6; content = x .0 } in
           let g : (s : State) × (u : Rows) × (step today st Sort.name r ≡ go s u) = f today r in
           n t (record { kind6 = refl })

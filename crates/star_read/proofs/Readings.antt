@@ -2,7 +2,6 @@
 -- rows of the run are the reading's.
 use mathlib.Core.Path.{_≡_}
 use mathlib.Core.List.{List}
-use Prim.Native.Nat.{ℕ}
 use native.Mathlib.Omega.{arith}
 use Rattle.star_lex.specs.Rules.{Rules, today}
 use Rattle.star_lex.specs.Tokens.{Token, Each}
@@ -40,5 +39,5 @@ pub run-reading : (ts : List Token) (rows : Rows) → Each WellFormed ts → run
     → (r : Reading ts) × (rows ≡ rowsOf (r .tree))
 unfolding tree-reading
 run-reading ts rows h e c =
-    let s : (f : File) × (fileYield f ≡ ts) × FileBy today f × (rows ≡ rowsOf f) = rows-of-run today (omega arith) ts (each-fixed ts h) rows e in
+    let s : (f : File) × (fileYield f ≡ ts) × FileBy today f × (rows ≡ rowsOf f) = rows-of-run today (omega arith) ts (each-fixed today ts h) rows e in
     (tree-reading ts (s .0) (s .1) (s .2) c, s .3)
