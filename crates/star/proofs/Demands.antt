@@ -1,4 +1,5 @@
 -- The demands hold: each sentence is proved by the crate that states it.
+use Rattle.star_read.proofs.Usable.{today-usable}
 use Rattle.star_read.proofs.Demand1.{read-answers}
 use Rattle.star_read.proofs.Demand3.{accepted-exactly, one-reading, rows-of-reading, place-of-refusal}
 use Rattle.star_read.proofs.RefusalNumber.{refusal-number, numbers-exclude}
@@ -13,10 +14,11 @@ pub demand-1 : Demand1
 demand-1 = (read-answers, lookups-answer, values-answer, write-answers)
 
 pub demand-2 : Demand2
-demand-2 = (rows-of-reading, lookup-block, lookup-frame, values-in-order, span-part, round-trip, writes-again)
+demand-2 = (today-usable, rows-of-reading, lookup-block, lookup-frame, values-in-order, span-part, round-trip, writes-again)
 
 pub demand-3 : Demand3
 demand-3 = (
+  today-usable,
   accepted-exactly,
   one-reading,
   rows-of-reading,

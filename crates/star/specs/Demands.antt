@@ -1,5 +1,7 @@
--- The demands on the library, whole: each is the product of its sentences, which the crates below state.
-use Rattle.star_read.specs.Demands.{AcceptedExactly, OneReading, RowsOfReading, PlaceOfRefusal, RefusalNumber, NumbersExclude, ReadingSettled, OneOutcome, ReadAnswers}
+-- The demands on the library, whole: each is the product of its sentences, which the crates below state. What is said of reading for all usable
+-- rules is said of the library since today's are usable.
+use Rattle.star_lex.specs.Rules.{today}
+use Rattle.star_read.specs.Demands.{Usable, AcceptedExactly, OneReading, RowsOfReading, PlaceOfRefusal, RefusalNumber, NumbersExclude, ReadingSettled, OneOutcome, ReadAnswers}
 use Rattle.star_find.specs.Demands.{LookupByName, LookupBlock, LookupFrame, ValuesInOrder, SpanPart, LookupsAnswer, ValuesAnswer}
 use Rattle.star_write.specs.Demands.{RoundTrip, WritesAgain, WriteAnswers}
 
@@ -11,9 +13,10 @@ Demand1 = ReadAnswers × LookupsAnswer × ValuesAnswer × WriteAnswers
 -- an accepted file gives the rows of its reading; blocks, frames and values are found in them, each value as that part of the file; the plain form
 -- reads back the same, and is written again as the same bytes
 abbrev pub Demand2 : Type 0
-Demand2 = RowsOfReading × LookupBlock × LookupFrame × ValuesInOrder × SpanPart × RoundTrip × WritesAgain
+Demand2 = Usable today × RowsOfReading × LookupBlock × LookupFrame × ValuesInOrder × SpanPart × RoundTrip × WritesAgain
 
 -- accepted exactly what has a reading; one reading; its tables; the place and number of a refusal, of which one alone holds; lookup by name; and, for
 -- any file and any tables, what reading gives, of which there is one
 abbrev pub Demand3 : Type 0
-Demand3 = AcceptedExactly × OneReading × RowsOfReading × PlaceOfRefusal × RefusalNumber × NumbersExclude × LookupByName × ReadingSettled × OneOutcome
+Demand3 = Usable today × AcceptedExactly × OneReading × RowsOfReading × PlaceOfRefusal × RefusalNumber × NumbersExclude × LookupByName × ReadingSettled
+    × OneOutcome

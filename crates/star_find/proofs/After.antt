@@ -9,6 +9,7 @@ use native.Mathlib.Nat.{add-zero}
 use native.Mathlib.Omega.{arith}
 use borrow.Author.Tests.{le-leb}
 use lib.ListN.{length, getD, length-map, List·getD-map}
+use Rattle.star_lex.specs.Rules.{today}
 use Rattle.star_rows.specs.Rows.{holding}
 use Rattle.star_rows.proofs.Held.{holding-room, held-word}
 use Rattle.star_lex.specs.Tokens.{Placed, tokenRow}
@@ -23,6 +24,7 @@ use Rattle.star_grammar.proofs.RowsOf.{contentIn, nameIn, setIn, fileNames, fil
 use Rattle.star_unique.specs.Holds.{tokenAt}
 use Rattle.star_unique.proofs.Held.{Row, held-row}
 use Rattle.star_read.specs.Read.{accepted, Sizes, tokensOnly, readOf}
+use Rattle.star_read.proofs.Usable.{today-usable}
 use Rattle.star_read.proofs.Demand3.{rows-of-reading, one-reading}
 use Rattle.star_read.proofs.Accepted.{accepted-holds}
 use Rattle.star_read.specs.Answer.{answerOf, tablesOf}
@@ -100,7 +102,7 @@ content-in ps row = ap (λ cs. getD cs (row - 1) []) (map-map (λ t. t .content)
 
 module _ (file : List ℕ) (words : Sizes) (ps : List Placed) (rows : Rows) (e : readOf file words ≡ accepted ps rows) where
   tokens-split : tokensOf file ≡ Split.accepted ps
-  tokens-split = rows-of-reading file words ps rows e .0
+  tokens-split = rows-of-reading today today-usable file words ps rows e .0
 
   module _ (row : ℕ) (is : IsToken (length ps) row) where
     token-row : Row file (holding tokenRow ps (words .tokens)) (row - 1)
@@ -149,8 +151,8 @@ pub record RowsAfter (ps : List Placed) (rows : Rows) (f : File) : Type 0 where
 pub rows-after : (file : List ℕ) (words : Sizes) (ps : List Placed) (rows : Rows) → readOf file words ≡ accepted ps rows
     → (r : Reading (tokensOnly ps)) → RowsAfter ps rows (r .tree)
 rows-after file words ps rows e r =
-    let k : (tokensOf file ≡ Split.accepted ps) × (s : Reading (tokensOnly ps)) × (rows ≡ rowsOf (s .tree)) = rows-of-reading file words ps rows e in
-    let q : rows ≡ rowsOf (r .tree) = k .2 ∙ ap rowsOf (one-reading (tokensOnly ps) (k .1) r) in
+    let k : (tokensOf file ≡ Split.accepted ps) × (s : Reading (tokensOnly ps)) × (rows ≡ rowsOf (s .tree)) = rows-of-reading today today-usable file words ps rows e in
+    let q : rows ≡ rowsOf (r .tree) = k .2 ∙ ap rowsOf (one-reading today (tokensOnly ps) (k .1) r) in
     let t : TreeRows (r .tree) = tree-rows (r .tree) in
     rw q (record {
       names = rw (r .yield) at (t .names);

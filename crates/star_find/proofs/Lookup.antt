@@ -7,6 +7,7 @@ use mathlib.Core.Logic.{_↔_}
 use Prim.Native.Nat.{ℕ, _-_, _<_}
 use native.Mathlib.Omega.{arith}
 use lib.ListN.{length, getD, length-map, List·getD-map}
+use Rattle.star_lex.specs.Rules.{today}
 use Rattle.star_rows.specs.Rows.{holding}
 use Rattle.star_lex.specs.Tokens.{Placed}
 use Rattle.star_grammar.specs.Tree.{File}
@@ -15,6 +16,7 @@ use Rattle.star_grammar.proofs.Widths.{name-wide, set-wide}
 use Rattle.star_grammar.proofs.RowsOf.{contentIn, nameIn, setIn, fileSets, IsToken}
 use Rattle.star_unique.proofs.Held.{each-at}
 use Rattle.star_read.specs.Read.{accepted, Sizes, tokensOnly, readOf}
+use Rattle.star_read.proofs.Usable.{today-usable}
 use Rattle.star_read.proofs.Demand3.{rows-of-reading}
 use Rattle.star_find.specs.Find.{findName, findBlock, findFrame, isRow, look, refused}
 use Rattle.star_find.specs.Demands.{contentOf, HoldsName, FirstName, LookupByName, SetWith, LookupBlock, HoldsFrame, LookupFrame, ValuesInOrder}
@@ -203,6 +205,6 @@ lookup-frame file words ps rows e r set code =
 
 pub values-in-order : ValuesInOrder
 values-in-order file words ps rows e name low high =
-    let k : RowsAfter ps rows _ = rows-after file words ps rows e (rows-of-reading file words ps rows e .1) in
+    let k : RowsAfter ps rows _ = rows-after file words ps rows e (rows-of-reading today today-usable file words ps rows e .1) in
     rw (lent-left file words ps rows e, counts-counted file words ps rows e)
     (value-found file words ps rows e (k .inside) name low high, value-none file words ps rows e (k .inside) name low high)

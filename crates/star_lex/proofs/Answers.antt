@@ -9,25 +9,25 @@ use lib.Dec.{leb, ltb}
 use lib.ListN.{length}
 use Rattle.star_text.specs.Bytes.{mostBytes, firstRefused}
 use Rattle.star_rows.proofs.Stored.{room}
-use Rattle.star_lex.specs.Rules.{today}
+use Rattle.star_lex.specs.Rules.{Rules, today}
 use Rattle.star_lex.specs.Tokens.{Placed}
-use Rattle.star_lex.specs.Split.{Split, refused, accepted, split, tokensBy}
-use Rattle.star_lex.specs.Found.{fitting, tokensIn, answerOf}
+use Rattle.star_lex.specs.Split.{Split, refused, accepted, split, tokensBy, tokensOf}
+use Rattle.star_lex.specs.Found.{fitting, tokensInBy, tokensIn, answerOf}
 use Rattle.star_lex.specs.declared.Tokens.{Tokens}
 use Rattle.star_lex.proofs.Cases.{impossible, cond-cases}
 use Rattle.star_lex.proofs.Splitting.{Faulty, split-refused}
 
 module _ (file : List ℕ) (words : ℕ) where
   pub tokens-too-long : mostBytes < length file → tokensIn file words ≡ refused 1 0
-  unfolding tokensIn
+  unfolding tokensInBy
   tokens-too-long h = rw (lt-leb (length file) mostBytes h)
 
   pub tokens-refused-byte : length file ≤ mostBytes → firstRefused file < length file → tokensIn file words ≡ refused 2 (firstRefused file)
-  unfolding tokensIn tokensBy fitting
+  unfolding tokensInBy tokensBy fitting
   tokens-refused-byte h k = rw (le-leb (length file) mostBytes h, lt-ltb (firstRefused file) (length file) k)
 
   pub tokens-split : length file ≤ mostBytes → length file ≤ firstRefused file → tokensIn file words ≡ fitting words (split today 0 true 0 file)
-  unfolding tokensIn tokensBy
+  unfolding tokensInBy tokensBy
   tokens-split h k = rw (le-leb (length file) mostBytes h, le-ltb (firstRefused file) (length file) k)
 
 -- a file that does not split is refused with 2 to 6, at one of its bytes
@@ -68,14 +68,17 @@ unfolding fitting
 fitting-room words ps h = rw (room 3 (length ps) words (omega arith), le-leb (length ps) (words / 3) h)
 
 -- tokens that fit are those of the file
-pub tokens-accepted : (file : List ℕ) (words : ℕ) (ps : List Placed) → tokensIn file words ≡ accepted ps → tokensBy today file ≡ accepted ps
-unfolding tokensIn fitting
-tokens-accepted file words ps e =
-    cond-cases (leb (length file) mostBytes) _ _ (accepted ps) e (λ d. fits (tokensBy today file)) (λ d h. impossible cc)
+pub accepted-by : (rules : Rules) (file : List ℕ) (words : ℕ) (ps : List Placed) → tokensInBy rules file words ≡ accepted ps → tokensBy rules file ≡ accepted ps
+unfolding tokensInBy fitting
+accepted-by rules file words ps e =
+    cond-cases (leb (length file) mostBytes) _ _ (accepted ps) e (λ d. fits (tokensBy rules file)) (λ d h. impossible cc)
   where
     fits : (s : Split) → fitting words s ≡ accepted ps → s ≡ accepted ps
     fits (refused n place) h = impossible cc
     fits (accepted qs) h = cond-cases (leb (length qs * 3) words) _ _ (accepted ps) h (λ d k. k) (λ d k. impossible cc)
+
+pub tokens-accepted : (file : List ℕ) (words : ℕ) (ps : List Placed) → tokensIn file words ≡ accepted ps → tokensOf file ≡ accepted ps
+tokens-accepted = accepted-by today
 
 -- a refusal of the tokens is not 0
 tokens-number : (file : List ℕ) (n place : ℕ) → tokensBy today file ≡ refused n place → n ≡ 0 → ⊥
@@ -92,7 +95,7 @@ fitting-number file words n place (accepted ps) d e z =
     cond-cases (leb (length ps * 3) words) _ _ _ e (λ q h. impossible cc) (λ q h. let k : 7 ≡ n = cc in omega arith)
 
 pub in-number : (file : List ℕ) (words n place : ℕ) → tokensIn file words ≡ refused n place → n ≡ 0 → ⊥
-unfolding tokensIn
+unfolding tokensInBy
 in-number file words n place e z =
     cond-cases (leb (length file) mostBytes) _ _ _ e
     (λ q h. fitting-number file words n place (tokensBy today file) refl h z)
@@ -115,7 +118,7 @@ fitting-within words (accepted qs) ps e =
     cond-cases (leb (length qs * 3) words) _ _ _ e (λ q h. let k : qs ≡ ps = cc in rw (← k) (leb-true _ _ q)) (λ q h. impossible cc)
 
 pub in-fits : (file : List ℕ) (words : ℕ) (ps : List Placed) → tokensIn file words ≡ accepted ps → (length file ≤ mostBytes) × (length ps * 3 ≤ words)
-unfolding tokensIn
+unfolding tokensInBy
 in-fits file words ps e =
     cond-cases (leb (length file) mostBytes) _ _ _ e
     (λ q h. (leb-true _ _ q, fitting-within words (tokensBy today file) ps h))

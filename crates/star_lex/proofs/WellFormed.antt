@@ -4,10 +4,10 @@ use mathlib.Core.Bool.{Bool, true}
 use mathlib.Core.List.{List, map}
 use Prim.Native.Nat.{ℕ}
 use Rattle.star_text.specs.Bytes.{isAllowed, all}
-use Rattle.star_lex.specs.Rules.{Rules, today}
-use Rattle.star_lex.specs.Tokens.{Placed, Each}
+use Rattle.star_lex.specs.Rules.{Rules, today, atLevels}
+use Rattle.star_lex.specs.Tokens.{Token, Placed, Each}
 use Rattle.star_lex.specs.Split.{accepted, tokensBy, tokensOf}
-use Rattle.star_lex.specs.WellFormed.{FormedBy, WellFormed}
+use Rattle.star_lex.specs.WellFormed.{FormedBy, WellFormed, block, frame, frameEnd, loop, stop, name, word, reference, single, double, text, global}
 use Rattle.star_text.proofs.Bytes.{all-tail}
 use Rattle.star_lex.proofs.Lexemes.{lexeme-token}
 use Rattle.star_lex.proofs.Steps.{Steps, ends, within, passes, takes, accepted-steps, accepted-allowed}
@@ -26,3 +26,18 @@ well-formed-by rules file ps e = steps-well-formed rules (accepted-steps rules f
 
 pub split-well-formed : (file : List ℕ) (ps : List Placed) → tokensOf file ≡ accepted ps → Each WellFormed (map (λ p. p .token) ps)
 split-well-formed = well-formed-by today
+
+-- the number of levels has no part in it
+pub formed-levels : {rules : Rules} {t : Token} (n : ℕ) → FormedBy rules t → FormedBy (atLevels rules n) t
+formed-levels n (block x xs e h) = block x xs e h
+formed-levels n (frame x xs e h) = frame x xs e h
+formed-levels n frameEnd = frameEnd
+formed-levels n loop = loop
+formed-levels n stop = stop
+formed-levels n (name x xs e h) = name x xs e h
+formed-levels n (word x xs e o) = word x xs e o
+formed-levels n (reference x xs e) = reference x xs e
+formed-levels n (single c a e) = single c a e
+formed-levels n (double c a e) = double c a e
+formed-levels n (text c a e) = text c a e
+formed-levels n global = global

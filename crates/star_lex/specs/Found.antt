@@ -8,8 +8,9 @@ use lib.ListN.{length, replicate}
 use Rattle.star_rows.specs.Widths.{tokenWidth}
 use Rattle.star_text.specs.Bytes.{mostBytes}
 use Rattle.star_rows.specs.Rows.{holding}
+use Rattle.star_lex.specs.Rules.{Rules, today}
 use Rattle.star_lex.specs.Tokens.{opening, tokenRow}
-use Rattle.star_lex.specs.Split.{Lexeme, gap, token, faulty, Split, refused, accepted, tokensOf}
+use Rattle.star_lex.specs.Split.{Lexeme, gap, token, faulty, Split, refused, accepted, tokensBy}
 use Rattle.star_lex.specs.declared.Found.{Found}
 use Rattle.star_lex.specs.declared.Found.the-variants.{Gap, Token as FoundToken, Fault}
 use Rattle.star_lex.specs.declared.Tokens.{Tokens}
@@ -21,8 +22,12 @@ unfoldable pub fitting : ℕ → Split → Split
 fitting words (refused n place) = refused n place
 fitting words (accepted ps) = cond (leb (length ps * tokenWidth) words) (accepted ps) (refused 7 1)
 
-unfoldable pub tokensIn : List ℕ → (words : ℕ) → Split
-tokensIn file words = cond (leb (length file) mostBytes) (fitting words (tokensOf file)) (refused 1 0)
+unfoldable pub tokensInBy : (rules : Rules) → List ℕ → (words : ℕ) → Split
+tokensInBy rules file words = cond (leb (length file) mostBytes) (fitting words (tokensBy rules file)) (refused 1 0)
+
+-- by today's rules
+abbrev pub tokensIn : List ℕ → (words : ℕ) → Split
+tokensIn file words = tokensInBy today file words
 
 -- refusal, place and number of tokens
 unfoldable pub answerOf : Split → Tokens

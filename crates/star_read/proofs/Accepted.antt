@@ -18,19 +18,20 @@ use Rattle.star_grammar.specs.Machine.{run, start}
 use Rattle.star_unique.specs.Holds.{Holds, fileTokens}
 use Rattle.star_unique.specs.Repeat.{nothing, firstRepeat}
 use Rattle.star_unique.proofs.Comparing.{table-holds}
-use Rattle.star_read.specs.Read.{Outcome, refused, accepted, Sizes, tokensOnly, grammarOf, after, readOf}
+use Rattle.star_read.specs.Read.{Outcome, refused, accepted, Sizes, tokensOnly, grammarOf, after, readBy, readOf}
 use Rattle.star_read.specs.Answer.{answerOf, Tables, tablesOf, Leaves, judgedOf}
 use Rattle.star_read.specs.declared.Reading.{Reading}
+use Rattle.star_read.proofs.Usable.{today-usable}
 use Rattle.star_read.proofs.Demand3.{rows-of-reading}
 use Rattle.star_read.proofs.Fitting.{refused≢accepted}
 use Rattle.star_read.proofs.Judging.{run-number}
 use Rattle.star_read.proofs.Settling.{Settled, settled}
 
 pub read-number : (file : List ℕ) (w : Sizes) (n place : ℕ) → readOf file w ≡ refused n place → n ≡ 0 → ⊥
-unfolding readOf after grammarOf judgedOf
+unfolding readBy after grammarOf judgedOf
 read-number file w n place e z = go (tokensIn file (w .tokens)) refl e
   where
-    go : (s : Split) → tokensIn file (w .tokens) ≡ s → after (length file) w s ≡ refused n place → ⊥
+    go : (s : Split) → tokensIn file (w .tokens) ≡ s → after today (length file) w s ≡ refused n place → ⊥
     go (Split.refused m q) d h = let k : m ≡ n = cc in in-number file (w .tokens) m q d (k ∙ z)
     go (Split.accepted ps) d h =
         let s : Settled w (length file) ps (firstRepeat nothing (tokensOnly ps)) (run today start (tokensOnly ps) noRows) =
@@ -56,12 +57,12 @@ answer-accepted file w r e z = go (readOf file w) refl e
 
 module _ (file : List ℕ) (w : Sizes) (ps : List Placed) (rows : Rows) (e : readOf file w ≡ accepted ps rows) where
   table-tokens : tokensIn file (w .tokens) ≡ Split.accepted ps
-  unfolding readOf after
+  unfolding readBy after
   table-tokens = go (tokensIn file (w .tokens)) refl e
     where
-      go : (s : Split) → tokensIn file (w .tokens) ≡ s → after (length file) w s ≡ accepted ps rows → s ≡ Split.accepted ps
+      go : (s : Split) → tokensIn file (w .tokens) ≡ s → after today (length file) w s ≡ accepted ps rows → s ≡ Split.accepted ps
       go (Split.refused n place) d h = absurd (refused≢accepted n place ps rows h)
-      go (Split.accepted qs) d h = sym (tokens-accepted file (w .tokens) qs d) ∙ rows-of-reading file w ps rows e .0
+      go (Split.accepted qs) d h = sym (tokens-accepted file (w .tokens) qs d) ∙ rows-of-reading today today-usable file w ps rows e .0
 
   -- table 1 as acceptance leaves it
   pub accepted-holds : Holds file (holding tokenRow ps (w .tokens)) (length ps)
@@ -74,7 +75,7 @@ module _ (file : List ℕ) (w : Sizes) (ps : List Placed) (rows : Rows) (e : rea
   -- its tokens are the file's
   pub tokens-file : tokensOnly ps ≡ fileTokens file
   unfolding placed
-  tokens-file = ap (λ s. tokensOnly (placed s)) (sym (rows-of-reading file w ps rows e .0))
+  tokens-file = ap (λ s. tokensOnly (placed s)) (sym (rows-of-reading today today-usable file w ps rows e .0))
 
   -- table 1 as reading has left it holds the tokens
   pub left-holds : (t : Tables) (count : ℕ) → Leaves (readOf file w) w t → count ≡ length ps → Holds file (t .tokens) count

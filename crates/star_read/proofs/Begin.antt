@@ -7,14 +7,15 @@ use native.Mathlib.Omega.{arith}
 use lib.ListN.{length}
 use Rattle.star_text.specs.Bytes.{mostBytes}
 use Rattle.star_lex.specs.Rules.{Rules, today}
+use Rattle.star_lex.specs.Rules.{Rules}
 use Rattle.star_lex.specs.Tokens.{Token, Placed, Each}
-use Rattle.star_lex.specs.Split.{tokensOf}
+use Rattle.star_lex.specs.Split.{tokensBy}
 use Rattle.star_lex.specs.Split as Split
 use Rattle.star_lex.specs.Plain.{plainOf}
-use Rattle.star_lex.specs.WellFormed.{WellFormed}
+use Rattle.star_lex.specs.WellFormed.{FormedBy}
 use Rattle.star_lex.proofs.Each.{each-append}
 use Rattle.star_lex.proofs.FreshName.{fresh-name-of}
-use Rattle.star_lex.proofs.PlainSplit.{lex-plain}
+use Rattle.star_lex.proofs.PlainSplit.{lex-plain-by}
 use Rattle.star_grammar.specs.Tree.{File, fileYield, FileBy}
 use Rattle.star_grammar.specs.Tables.{Rows, noRows}
 use Rattle.star_grammar.specs.Machine.{State, start, within, named, header, body, go, walk, good, run}
@@ -27,25 +28,25 @@ use Rattle.star_unique.proofs.Clean.{Clean, clean-append}
 use Rattle.star_unique.proofs.Names.{namesIn, names-count}
 use Rattle.star_unique.proofs.Fresh.{Quiet, quiet-stop, quiet-end, quiet-after, fresh-after}
 use Rattle.star_read.specs.Read.{tokensOnly}
-use Rattle.star_read.specs.Demands.{Begins, BeginsShape}
+use Rattle.star_read.specs.Demands.{Usable, Begins, BeginsShape}
 use Rattle.star_read.proofs.Readings.{yield-run, reading-run, reading-clean, tree-reading}
 
 -- a row that begins what a run accepts
 run-first : (rules : Rules) (p rest ts : List Token) (rows : Rows) → ts ≡ p ++ rest → run rules start ts noRows ≡ good rows → Walks rules start p noRows
 run-first rules p rest ts rows e g = walks-first rules p rest start noRows (rw e at (good-walks rules ts start noRows rows g))
 
-pub begins-walks : (p : List Token) → Begins p → Walks today start p noRows
-begins-walks p b = run-first today p (b .rest) (tokensOnly (b .tokens)) _ (b .starts) (reading-run (tokensOnly (b .tokens)) (b .reading))
+pub begins-walks : (rules : Rules) (p : List Token) → Begins rules p → Walks rules start p noRows
+begins-walks rules p b = run-first rules p (b .rest) (tokensOnly (b .tokens)) _ (b .starts) (reading-run rules (tokensOnly (b .tokens)) (b .reading))
 
-pub begins-clean : (p : List Token) → Begins p → Clean nothing p
-begins-clean p b = clean-append nothing p (b .rest) .0 (rw (b .starts) at (reading-clean (tokensOnly (b .tokens)) (b .reading))) .0
+pub begins-clean : (rules : Rules) (p : List Token) → Begins rules p → Clean nothing p
+begins-clean rules p b = clean-append nothing p (b .rest) .0 (rw (b .starts) at (reading-clean rules (tokensOnly (b .tokens)) (b .reading))) .0
 
 pub shape-walks : (rules : Rules) (p : List Token) → BeginsShape rules p → Walks rules start p noRows
 shape-walks rules p b = run-first rules p (b .rest) (tokensOnly (b .tokens)) _ (b .starts) (yield-run rules (b .tree) _ (b .yield) (b .whole))
 
 -- a first part of a row that begins a file
-pub begins-first : (p q : List Token) → Begins (p ++ q) → Begins p
-begins-first p q b = record {
+pub begins-first : (rules : Rules) (p q : List Token) → Begins rules (p ++ q) → Begins rules p
+begins-first rules p q b = record {
   file = b .file;
   tokens = b .tokens;
   splits = b .splits;
@@ -77,27 +78,27 @@ clean-completion p (body w outer l inner f) x c k n =
 -- a row with its completion
 record Completed (rules : Rules) (p : List Token) (st : State) (x : Token) : Type 0 where
   tokens : List Placed
-  splits : tokensOf (plainOf (p ++ completion st x)) ≡ Split.accepted tokens
+  splits : tokensBy rules (plainOf (p ++ completion st x)) ≡ Split.accepted tokens
   are : tokensOnly tokens ≡ p ++ completion st x
   tree : File
   yield : fileYield tree ≡ tokensOnly tokens
   whole : FileBy rules tree
 
-module _ (rules : Rules) (least : 1 ≤ rules .levels) (p : List Token) (h : Each WellFormed p) (st : State) (r : Rows) (e : walk rules start p noRows ≡ go st r) where
-  completed : (x : List ℕ) → WellFormed (record { kind = 6; content = x }) → Completed rules p st (record { kind = 6; content = x })
+module _ (rules : Rules) (least : 1 ≤ rules .levels) (p : List Token) (h : Each (FormedBy rules) p) (st : State) (r : Rows) (e : walk rules start p noRows ≡ go st r) where
+  completed : (x : List ℕ) → FormedBy rules (record { kind = 6; content = x }) → Completed rules p st (record { kind = 6; content = x })
   completed x w =
       let t : Token = record { kind = 6; content = x } in
-      let s : (ps : List Placed) × (tokensOf (plainOf (p ++ completion st t)) ≡ Split.accepted ps) × (tokensOnly ps ≡ p ++ completion st t)
-      = lex-plain (p ++ completion st t) (each-append WellFormed p (completion st t) .1 (h, formed-completion today st t w)) in
+      let s : (ps : List Placed) × (tokensBy rules (plainOf (p ++ completion st t)) ≡ Split.accepted ps) × (tokensOnly ps ≡ p ++ completion st t)
+      = lex-plain-by rules (p ++ completion st t) (each-append (FormedBy rules) p (completion st t) .1 (h, formed-completion rules st t w)) in
       let a : (f : File) × (fileYield f ≡ p ++ completion st t) × FileBy rules f
-      = rest-alive rules least p (each-fixed today p h) st r e t (record { kind6 = refl }) in
+      = rest-alive rules least p (each-fixed rules p h) st r e t (record { kind6 = refl }) in
       record { tokens = s .0; splits = s .1; are = s .2; tree = a .0; yield = a .1 ∙ sym (s .2); whole = a .2 }
 
-pub walks-shape : (rules : Rules) → 1 ≤ rules .levels → (p : List Token) → Each WellFormed p → Walks rules start p noRows → BeginsShape rules p
-walks-shape rules least p h k =
-    let n : (x : List ℕ) × WellFormed (record { kind = 6; content = x }) × (List·Memᴰ x [] → ⊥) = fresh-name-of today 1 [] (omega arith) (omega arith) (omega arith) in
+pub walks-shape : (rules : Rules) → Usable rules → (p : List Token) → Each (FormedBy rules) p → Walks rules start p noRows → BeginsShape rules p
+walks-shape rules usable p h k =
+    let n : (x : List ℕ) × FormedBy rules (record { kind = 6; content = x }) × (List·Memᴰ x [] → ⊥) = fresh-name-of rules 1 [] (omega arith) (omega (arith, usable .long-names)) (omega arith) in
     let t : Token = record { kind = 6; content = n .0 } in
-    let c : Completed rules p (k .0) t = completed rules least p h (k .0) (k .1) (k .2) (n .0) (n .1) in
+    let c : Completed rules p (k .0) t = completed rules (usable .some-level) p h (k .0) (k .1) (k .2) (n .0) (n .1) in
     record {
       file = plainOf (p ++ completion (k .0) t);
       tokens = c .tokens;
@@ -109,17 +110,18 @@ walks-shape rules least p h k =
       starts = c .are;
     }
 
-pub walks-begins : (p : List Token) → Each WellFormed p → length p ≤ mostBytes → Walks today start p noRows → Clean nothing p → Begins p
-walks-begins p h l k c =
-    let n : (x : List ℕ) × WellFormed (record { kind = 6; content = x }) × (List·Memᴰ x (namesIn p) → ⊥)
-    = fresh-name-of today 21 (namesIn p) (omega arith) (omega arith) (omega (arith, names-count p)) in
+pub walks-begins : (rules : Rules) → Usable rules → (p : List Token) → Each (FormedBy rules) p → length p ≤ mostBytes → Walks rules start p noRows
+    → Clean nothing p → Begins rules p
+walks-begins rules usable p h l k c =
+    let n : (x : List ℕ) × FormedBy rules (record { kind = 6; content = x }) × (List·Memᴰ x (namesIn p) → ⊥)
+    = fresh-name-of rules 21 (namesIn p) (omega arith) (omega (arith, usable .long-names)) (omega (arith, names-count p)) in
     let t : Token = record { kind = 6; content = n .0 } in
-    let d : Completed today p (k .0) t = completed today (omega arith) p h (k .0) (k .1) (k .2) (n .0) (n .1) in
+    let d : Completed rules p (k .0) t = completed rules (usable .some-level) p h (k .0) (k .1) (k .2) (n .0) (n .1) in
     record {
       file = plainOf (p ++ completion (k .0) t);
       tokens = d .tokens;
       splits = d .splits;
-      reading = tree-reading (tokensOnly (d .tokens)) (d .tree) (d .yield) (d .whole) (rw (d .are) (clean-completion p (k .0) t c refl (n .2)));
+      reading = tree-reading rules (tokensOnly (d .tokens)) (d .tree) (d .yield) (d .whole) (rw (d .are) (clean-completion p (k .0) t c refl (n .2)));
       rest = completion (k .0) t;
       starts = d .are;
     }

@@ -5,6 +5,7 @@ use mathlib.Core.Logic.{_⊎_, inl, inr}
 use Prim.Native.Nat.{ℕ, _≤_, _<_}
 use native.Mathlib.Omega.{arith}
 use lib.ListN.{length}
+use Rattle.star_lex.specs.Rules.{Rules, today}
 use Rattle.star_lex.specs.Tokens.{Token, Placed}
 use Rattle.star_lex.specs.Split.{tokensOf}
 use Rattle.star_lex.specs.Split as Split
@@ -17,16 +18,17 @@ use Rattle.star_grammar.specs.Reading.{Reading}
 use Rattle.star_read.specs.Read.{Outcome, refused, accepted, Sizes, tokensOnly, readOf}
 use Rattle.star_read.specs.Answer.{answerOf, tablesOf}
 use Rattle.star_read.specs.Demands.{Room, Tokenized, NumberAt, NumberAtEnd, Bad, Short, Settles, Numbered, HasReading, ReadAnswer, ReadAnswers}
+use Rattle.star_read.proofs.Usable.{today-usable}
 use Rattle.star_read.proofs.Settled.{reading-settled}
 
-token-number : {p : List Token} {t : Token} {n : ℕ} → NumberAt p t n → (8 ≤ n) × (n ≤ 12)
+token-number : {rules : Rules} {p : List Token} {t : Token} {n : ℕ} → NumberAt rules p t n → (8 ≤ n) × (n ≤ 12)
 token-number (NumberAt.global k) = (omega arith, omega arith)
 token-number (NumberAt.taken k b) = (omega arith, omega arith)
 token-number (NumberAt.deep k f l b) = (omega arith, omega arith)
 token-number (NumberAt.packet k f v w) = (omega arith, omega arith)
 token-number (NumberAt.other k f o) = (omega arith, omega arith)
 
-end-number : {p : List Token} {n : ℕ} → NumberAtEnd p n → (n ≡ 8) ⊎ (n ≡ 10)
+end-number : {rules : Rules} {p : List Token} {n : ℕ} → NumberAtEnd rules p n → (n ≡ 8) ⊎ (n ≡ 10)
 end-number (NumberAtEnd.packet v w) = inr refl
 end-number (NumberAtEnd.other o) = inl refl
 
@@ -40,7 +42,7 @@ table-number (Short.values a b c d) = (omega arith, omega arith)
 token-within : (file : List ℕ) (ps p : List Placed) (t : Placed) (q : List Placed) → tokensOf file ≡ Split.accepted ps → ps ≡ p ++ (t ∷ q) → t .at < length file
 token-within file ps p t q s e = each-append (PartOf file) p (t ∷ q) .0 (rw e at (split-parts file ps s)) .1 .0 .first
 
-bad-number : (file : List ℕ) (ps : List Placed) (n place : ℕ) → tokensOf file ≡ Split.accepted ps → Bad file ps n place → Numbered (length file) n place
+bad-number : (file : List ℕ) (ps : List Placed) (n place : ℕ) → tokensOf file ≡ Split.accepted ps → Bad today file ps n place → Numbered (length file) n place
 bad-number file ps _ _ s (Bad.token n p t q e b k h) =
     let m : (8 ≤ n) × (n ≤ 12) = token-number h in
     Numbered.token n (t .at) (m .0) (m .1) (token-within file ps p t q s e)
@@ -49,12 +51,12 @@ bad-number file ps _ _ s (Bad.end n b h) = Numbered.end n (end-number h)
 module _ (file : List ℕ) (words : Sizes) where
   -- a refusal has one of the numbers, with its place
   pub refused-numbered : (n place : ℕ) → readOf file words ≡ refused n place → Numbered (length file) n place
-  refused-numbered n place = by (readOf file words) (reading-settled file words)
+  refused-numbered n place = by (readOf file words) (reading-settled today today-usable file words)
     where
       same : {m i : ℕ} → Numbered (length file) m i → refused m i ≡ refused n place → Numbered (length file) n place
       same {m} {i} k d = let a : m ≡ n = cc in let b : i ≡ place = cc in rw (← a, ← b) k
 
-      by : (o : Outcome) → Settles file words o → o ≡ refused n place → Numbered (length file) n place
+      by : (o : Outcome) → Settles today file words o → o ≡ refused n place → Numbered (length file) n place
       by _ (Settles.over-size h) d = same Numbered.over-size d
       by _ (Settles.unsplit m i small e) d =
           let f : (2 ≤ m) × (m ≤ 6) × (i < length file) = tokens-faulty file m i e in
@@ -66,10 +68,10 @@ module _ (file : List ℕ) (words : Sizes) where
 
   -- what is accepted has a reading, and room for its rows
   pub accepted-room : (ps : List Placed) (rows : Rows) → readOf file words ≡ accepted ps rows
-      → Tokenized file words ps × Reading (tokensOnly ps) × Room words rows
-  accepted-room ps rows = by (readOf file words) (reading-settled file words)
+      → Tokenized today file words ps × Reading (tokensOnly ps) × Room words rows
+  accepted-room ps rows = by (readOf file words) (reading-settled today today-usable file words)
     where
-      by : (o : Outcome) → Settles file words o → o ≡ accepted ps rows → Tokenized file words ps × Reading (tokensOnly ps) × Room words rows
+      by : (o : Outcome) → Settles today file words o → o ≡ accepted ps rows → Tokenized today file words ps × Reading (tokensOnly ps) × Room words rows
       by _ (Settles.over-size h) d = impossible cc
       by _ (Settles.unsplit m i small e) d = impossible cc
       by _ (Settles.no-token-room qs small e h) d = impossible cc
@@ -82,7 +84,7 @@ module _ (file : List ℕ) (words : Sizes) where
 
   pub accepted-has : (ps : List Placed) (rows : Rows) → readOf file words ≡ accepted ps rows → HasReading file
   accepted-has ps rows e =
-      let k : Tokenized file words ps × Reading (tokensOnly ps) × Room words rows = accepted-room ps rows e in
+      let k : Tokenized today file words ps × Reading (tokensOnly ps) × Room words rows = accepted-room ps rows e in
       record { small = k .0 .small; tokens = ps; splits = k .0 .splits; reading = k .1 }
 
 pub read-answers : ReadAnswers

@@ -7,22 +7,22 @@ use Prim.Native.Nat.{ℕ}
 use native.Mathlib.Omega.{arith}
 use borrow.Author.Tests.{le-ltb}
 use lib.ListN.{length, length-map}
-use Rattle.star_lex.specs.Rules.{today}
+use Rattle.star_lex.specs.Rules.{Rules}
 use Rattle.star_lex.specs.Tokens.{Placed}
-use Rattle.star_lex.specs.Split.{Split, tokensOf}
+use Rattle.star_lex.specs.Split.{Split, tokensBy}
 use Rattle.star_lex.specs.Split as Split
-use Rattle.star_lex.specs.Found.{tokensIn}
+use Rattle.star_lex.specs.Found.{tokensInBy}
 use Rattle.star_lex.proofs.Cases.{impossible}
-use Rattle.star_lex.proofs.WellFormed.{split-well-formed}
-use Rattle.star_lex.proofs.Answers.{tokens-accepted}
+use Rattle.star_lex.proofs.WellFormed.{well-formed-by}
+use Rattle.star_lex.proofs.Answers.{accepted-by}
 use Rattle.star_grammar.specs.Tables.{Rows, noRows, rowsOf}
-use Rattle.star_grammar.specs.Reading.{Reading}
+use Rattle.star_grammar.specs.Reading.{ReadingBy}
 use Rattle.star_grammar.specs.Machine.{start, good, run}
 use Rattle.star_grammar.proofs.Unambiguous.{unambiguous}
 use Rattle.star_unique.specs.Repeat.{nothing}
 use Rattle.star_unique.proofs.Clean.{Clean, clean-repeat}
-use Rattle.star_read.specs.Read.{Outcome, refused, accepted, Sizes, tokensOnly, decide, grammarOf, fitting, after, readOf}
-use Rattle.star_read.specs.Demands.{Fair, FirstBad, Bad, AcceptedExactly, OneReading, RowsOfReading, PlaceOfRefusal}
+use Rattle.star_read.specs.Read.{Outcome, refused, accepted, Sizes, tokensOnly, decide, grammarOf, fitting, after, readBy}
+use Rattle.star_read.specs.Demands.{Usable, Fair, FirstBad, Bad, AcceptedExactly, OneReading, RowsOfReading, PlaceOfRefusal}
 use Rattle.star_read.proofs.Readings.{reading-run, reading-clean, run-reading}
 use Rattle.star_read.proofs.Verdict.{Verdict, verdict}
 use Rattle.star_read.proofs.Fitting.{refused≢accepted, tokenized-read, room-fits, fits-accepted}
@@ -30,58 +30,58 @@ use Rattle.star_read.proofs.FairFile.{accepted-fits}
 use Rattle.star_read.proofs.FirstBad.{verdict-bad}
 
 -- a row that the grammar accepts
-pub accepted-verdict : (ps qs : List Placed) (size : ℕ) (rows : Rows) (o : Outcome) → Verdict ps size o → o ≡ accepted qs rows
-    → (ps ≡ qs) × (run today start (tokensOnly ps) noRows ≡ good rows) × Clean nothing (tokensOnly ps)
-accepted-verdict ps qs size rows o (Verdict.reads u e c) q = ((cc), e ∙ ap good (let k : u ≡ rows = cc in k), c)
-accepted-verdict ps qs size rows o (Verdict.repeats place p t q e l c w k) d = impossible cc
-accepted-verdict ps qs size rows o (Verdict.halts n place p t q e l c st r w k) d = impossible cc
-accepted-verdict ps qs size rows o (Verdict.ends n place i l c st r w k) d = impossible cc
+pub accepted-verdict : (rules : Rules) (ps qs : List Placed) (size : ℕ) (rows : Rows) (o : Outcome) → Verdict rules ps size o → o ≡ accepted qs rows
+    → (ps ≡ qs) × (run rules start (tokensOnly ps) noRows ≡ good rows) × Clean nothing (tokensOnly ps)
+accepted-verdict rules ps qs size rows o (Verdict.reads u e c) q = ((cc), e ∙ ap good (let k : u ≡ rows = cc in k), c)
+accepted-verdict rules ps qs size rows o (Verdict.repeats place p t q e l c w k) d = impossible cc
+accepted-verdict rules ps qs size rows o (Verdict.halts n place p t q e l c st r w k) d = impossible cc
+accepted-verdict rules ps qs size rows o (Verdict.ends n place i l c st r w k) d = impossible cc
 
 -- a reading makes the grammar accept
-pub reading-accepted : (ps : List Placed) (size : ℕ) (r : Reading (tokensOnly ps)) → grammarOf size ps ≡ accepted ps (rowsOf (r .tree))
+pub reading-accepted : (rules : Rules) (ps : List Placed) (size : ℕ) (r : ReadingBy rules (tokensOnly ps)) → grammarOf rules size ps ≡ accepted ps (rowsOf (r .tree))
 unfolding grammarOf decide
-reading-accepted ps size r =
-    rw (reading-run (tokensOnly ps) r, clean-repeat nothing (tokensOnly ps) (reading-clean (tokensOnly ps) r), length-map, le-ltb (length ps) (length ps) (omega arith))
+reading-accepted rules ps size r =
+    rw (reading-run rules (tokensOnly ps) r, clean-repeat nothing (tokensOnly ps) (reading-clean rules (tokensOnly ps) r), length-map, le-ltb (length ps) (length ps) (omega arith))
 
 pub one-reading : OneReading
-one-reading ts r s = unambiguous today (r .tree) (s .tree) (r .whole) (s .whole) (r .yield ∙ sym (s .yield))
+one-reading rules ts r s = unambiguous rules (r .tree) (s .tree) (r .whole) (s .whole) (r .yield ∙ sym (s .yield))
 
-rows-after : (file : List ℕ) (words : Sizes) (ps : List Placed) (rows : Rows) (s : Split) → tokensIn file (words .tokens) ≡ s
-    → after (length file) words s ≡ accepted ps rows
-    → (tokensOf file ≡ Split.accepted ps) × (r : Reading (tokensOnly ps)) × (rows ≡ rowsOf (r .tree))
+rows-after : (rules : Rules) → Usable rules → (file : List ℕ) (words : Sizes) (ps : List Placed) (rows : Rows) (s : Split) → tokensInBy rules file (words .tokens) ≡ s
+    → after rules (length file) words s ≡ accepted ps rows
+    → (tokensBy rules file ≡ Split.accepted ps) × (r : ReadingBy rules (tokensOnly ps)) × (rows ≡ rowsOf (r .tree))
 unfolding after
-rows-after file words ps rows (Split.refused n place) d e = absurd (refused≢accepted n place ps rows e)
-rows-after file words ps rows (Split.accepted qs) d e =
-    let v : (qs ≡ ps) × (run today start (tokensOnly qs) noRows ≡ good rows) × Clean nothing (tokensOnly qs)
-    = accepted-verdict qs ps (length file) rows _ (verdict qs (length file)) (fits-accepted words _ ps rows e) in
-    let s : tokensOf file ≡ Split.accepted qs = tokens-accepted file (words .tokens) qs d in
-    let r : (r : Reading (tokensOnly qs)) × (rows ≡ rowsOf (r .tree)) = run-reading (tokensOnly qs) rows (split-well-formed file qs s) (v .1) (v .2) in
+rows-after rules usable file words ps rows (Split.refused n place) d e = absurd (refused≢accepted n place ps rows e)
+rows-after rules usable file words ps rows (Split.accepted qs) d e =
+    let v : (qs ≡ ps) × (run rules start (tokensOnly qs) noRows ≡ good rows) × Clean nothing (tokensOnly qs)
+    = accepted-verdict rules qs ps (length file) rows _ (verdict rules qs (length file)) (fits-accepted words _ ps rows e) in
+    let s : tokensBy rules file ≡ Split.accepted qs = accepted-by rules file (words .tokens) qs d in
+    let r : (r : ReadingBy rules (tokensOnly qs)) × (rows ≡ rowsOf (r .tree)) = run-reading rules (usable .some-level) (tokensOnly qs) rows (well-formed-by rules file qs s) (v .1) (v .2) in
     rw (← (v .0)) (s, r .0, r .1)
 
 pub rows-of-reading : RowsOfReading
-unfolding readOf
-rows-of-reading file words ps rows e = rows-after file words ps rows _ refl e
+unfolding readBy
+rows-of-reading rules usable file words ps rows e = rows-after rules usable file words ps rows _ refl e
 
 pub accepted-exactly : AcceptedExactly
-accepted-exactly file words ps f = (
-  λ a. rows-of-reading file words ps (a .0) (a .1) .1,
-  λ r. (rowsOf (r .tree), tokenized-read file words ps (f .tokenized) ∙ ap (fitting words) (reading-accepted ps (length file) r) ∙ room-fits words ps (rowsOf (r .tree)) (f .rooms r)),
+accepted-exactly rules usable file words ps f = (
+  λ a. rows-of-reading rules usable file words ps (a .0) (a .1) .1,
+  λ r. (rowsOf (r .tree), tokenized-read rules file words ps (f .tokenized) ∙ ap (fitting words) (reading-accepted rules ps (length file) r) ∙ room-fits words ps (rowsOf (r .tree)) (f .rooms r)),
 )
 
 -- where there is room, a refused file has a first bad token
-pub fair-bad : (file : List ℕ) (words : Sizes) (ps : List Placed) → Fair file words ps → (n place : ℕ) → readOf file words ≡ refused n place → Bad file ps n place
+pub fair-bad : (rules : Rules) → Usable rules → (file : List ℕ) (words : Sizes) (ps : List Placed) → Fair rules file words ps → (n place : ℕ) → readBy rules file words ≡ refused n place → Bad rules file ps n place
 unfolding fitting
-fair-bad file words ps f n place e = by (grammarOf (length file) ps) (verdict ps (length file)) (sym (tokenized-read file words ps (f .tokenized)) ∙ e)
+fair-bad rules usable file words ps f n place e = by (grammarOf rules (length file) ps) (verdict rules ps (length file)) (sym (tokenized-read rules file words ps (f .tokenized)) ∙ e)
   where
-    by : (o : Outcome) → Verdict ps (length file) o → fitting words o ≡ refused n place → Bad file ps n place
-    by (refused m i) v d = verdict-bad file words ps (f .tokenized) n place (refused m i) v d
+    by : (o : Outcome) → Verdict rules ps (length file) o → fitting words o ≡ refused n place → Bad rules file ps n place
+    by (refused m i) v d = verdict-bad rules usable file words ps (f .tokenized) n place (refused m i) v d
     by (accepted qs rows) v d =
-        let k : (ps ≡ qs) × (run today start (tokensOnly ps) noRows ≡ good rows) × Clean nothing (tokensOnly ps) = accepted-verdict ps qs (length file) rows _ v refl in
-        absurd (refused≢accepted n place ps rows (sym (rw (← (k .0)) at d) ∙ accepted-fits file words ps f rows (k .1) (k .2)))
+        let k : (ps ≡ qs) × (run rules start (tokensOnly ps) noRows ≡ good rows) × Clean nothing (tokensOnly ps) = accepted-verdict rules ps qs (length file) rows _ v refl in
+        absurd (refused≢accepted n place ps rows (sym (rw (← (k .0)) at d) ∙ accepted-fits rules usable file words ps f rows (k .1) (k .2)))
 
 pub place-of-refusal : PlaceOfRefusal
-place-of-refusal file words ps f n place e = at (fair-bad file words ps f n place e)
+place-of-refusal rules usable file words ps f n place e = at (fair-bad rules usable file words ps f n place e)
   where
-    at : {n place : ℕ} → Bad file ps n place → FirstBad file ps place
+    at : {n place : ℕ} → Bad rules file ps n place → FirstBad rules file ps place
     at (Bad.token n p t q d b k h) = FirstBad.token p t q d refl b k
     at (Bad.end n b h) = FirstBad.end refl b

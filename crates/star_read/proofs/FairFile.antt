@@ -8,13 +8,14 @@ use native.Mathlib.Omega.{arith}
 use lib.ListN.{length, length-append, length-map}
 use Rattle.star_text.specs.Bytes.{mostBytes}
 use Rattle.star_lex.specs.Rules.{today}
+use Rattle.star_lex.specs.Rules.{Rules}
 use Rattle.star_lex.specs.Tokens.{Placed, Each}
-use Rattle.star_lex.specs.WellFormed.{WellFormed}
+use Rattle.star_lex.specs.WellFormed.{FormedBy}
 use Rattle.star_lex.proofs.Each.{each-append}
-use Rattle.star_lex.proofs.Parts.{split-count}
-use Rattle.star_lex.proofs.WellFormed.{split-well-formed}
+use Rattle.star_lex.proofs.Parts.{count-by}
+use Rattle.star_lex.proofs.WellFormed.{well-formed-by}
 use Rattle.star_grammar.specs.Tables.{Rows, noRows, rowsOf}
-use Rattle.star_grammar.specs.Reading.{Reading}
+use Rattle.star_grammar.specs.Reading.{ReadingBy}
 use Rattle.star_grammar.specs.Machine.{sortOf, State, start, go, refuse, step, good, run, walk}
 use Rattle.star_grammar.proofs.Walking.{Walks, halted}
 use Rattle.star_unique.specs.Repeat.{nothing, isTaken}
@@ -22,41 +23,42 @@ use Rattle.star_unique.specs.Seen.{takesAll}
 use Rattle.star_unique.proofs.Clean.{Clean}
 use Rattle.star_unique.proofs.First.{taken-unclean}
 use Rattle.star_read.specs.Read.{accepted, Sizes, tokensOnly, fitting}
-use Rattle.star_read.specs.Demands.{Begins, Tokenized, Fair}
+use Rattle.star_read.specs.Demands.{Usable, Begins, Tokenized, Fair}
 use Rattle.star_read.proofs.Readings.{run-reading}
 use Rattle.star_read.proofs.Begin.{begins-walks, begins-clean, walks-begins}
 use Rattle.star_read.proofs.Fitting.{room-fits}
 
--- with a token that is taken, or that a step refuses, no file begins
-pub taken-begins : (p : List Placed) (t : Placed) → isTaken (takesAll nothing (tokensOnly p)) (t .token) ≡ true → Begins (tokensOnly (p ++ (t ∷ []))) → ⊥
-taken-begins p t e b = taken-unclean nothing (tokensOnly p) (t .token) [] e (rw map-append at (begins-clean (tokensOnly (p ++ (t ∷ []))) b))
+module _ (rules : Rules) where
+  -- with a token that is taken, or that a step refuses, no file begins
+  pub taken-begins : (p : List Placed) (t : Placed) → isTaken (takesAll nothing (tokensOnly p)) (t .token) ≡ true → Begins rules (tokensOnly (p ++ (t ∷ []))) → ⊥
+  taken-begins p t e b = taken-unclean nothing (tokensOnly p) (t .token) [] e (rw map-append at (begins-clean rules (tokensOnly (p ++ (t ∷ []))) b))
 
-pub halted-begins : (n : ℕ) (p : List Placed) (t : Placed) (st : State) (r : Rows) → walk today start (tokensOnly p) noRows ≡ go st r
-    → step today st (sortOf (t .token .kind)) r ≡ refuse n → Begins (tokensOnly (p ++ (t ∷ []))) → ⊥
-halted-begins n p t st r w k b =
-    halted today start st (tokensOnly p) (t .token) noRows r n w k (rw map-append at (begins-walks (tokensOnly (p ++ (t ∷ []))) b))
+  pub halted-begins : (n : ℕ) (p : List Placed) (t : Placed) (st : State) (r : Rows) → walk rules start (tokensOnly p) noRows ≡ go st r
+      → step rules st (sortOf (t .token .kind)) r ≡ refuse n → Begins rules (tokensOnly (p ++ (t ∷ []))) → ⊥
+  halted-begins n p t st r w k b =
+      halted rules start st (tokensOnly p) (t .token) noRows r n w k (rw map-append at (begins-walks rules (tokensOnly (p ++ (t ∷ []))) b))
 
--- a first part of the tokens of a file
-module _ (file : List ℕ) (words : Sizes) (ps : List Placed) (f : Tokenized file words ps) where
-  pub part-formed : (p q : List Placed) → ps ≡ p ++ q → Each WellFormed (tokensOnly p)
-  part-formed p q e =
-      each-append WellFormed (tokensOnly p) (tokensOnly q) .0 (rw (e, map-append) at (split-well-formed file ps (f .splits))) .0
+  -- a first part of the tokens of a file
+  module _ (usable : Usable rules) (file : List ℕ) (words : Sizes) (ps : List Placed) (f : Tokenized rules file words ps) where
+    pub part-formed : (p q : List Placed) → ps ≡ p ++ q → Each (FormedBy rules) (tokensOnly p)
+    part-formed p q e =
+        each-append (FormedBy rules) (tokensOnly p) (tokensOnly q) .0 (rw (e, map-append) at (well-formed-by rules file ps (f .splits))) .0
 
-  part-small : (p q : List Placed) → ps ≡ p ++ q → length (tokensOnly p) ≤ mostBytes
-  part-small p q e =
-      rw length-map (omega (arith, f .small, split-count file ps (f .splits), ap length e, length-append p q))
+    part-small : (p q : List Placed) → ps ≡ p ++ q → length (tokensOnly p) ≤ mostBytes
+    part-small p q e =
+        rw length-map (omega (arith, f .small, count-by rules file ps (f .splits), ap length e, length-append p q))
 
-  pub part-begins : (p q : List Placed) → ps ≡ p ++ q → Walks today start (tokensOnly p) noRows → Clean nothing (tokensOnly p) → Begins (tokensOnly p)
-  part-begins p q e = walks-begins (tokensOnly p) (part-formed p q e) (part-small p q e)
+    pub part-begins : (p q : List Placed) → ps ≡ p ++ q → Walks rules start (tokensOnly p) noRows → Clean nothing (tokensOnly p) → Begins rules (tokensOnly p)
+    part-begins p q e = walks-begins rules usable (tokensOnly p) (part-formed p q e) (part-small p q e)
 
--- what the grammar accepts has a reading, with its rows
-pub accepted-reading : (file : List ℕ) (words : Sizes) (ps : List Placed) → Tokenized file words ps → (rows : Rows)
-    → run today start (tokensOnly ps) noRows ≡ good rows → Clean nothing (tokensOnly ps) → (r : Reading (tokensOnly ps)) × (rows ≡ rowsOf (r .tree))
-accepted-reading file words ps f rows = run-reading (tokensOnly ps) rows (split-well-formed file ps (f .splits))
+  -- what the grammar accepts has a reading, with its rows
+  pub accepted-reading : Usable rules → (file : List ℕ) (words : Sizes) (ps : List Placed) → Tokenized rules file words ps → (rows : Rows)
+      → run rules start (tokensOnly ps) noRows ≡ good rows → Clean nothing (tokensOnly ps) → (r : ReadingBy rules (tokensOnly ps)) × (rows ≡ rowsOf (r .tree))
+  accepted-reading usable file words ps f rows = run-reading rules (usable .some-level) (tokensOnly ps) rows (well-formed-by rules file ps (f .splits))
 
--- and, in a fair file, room
-pub accepted-fits : (file : List ℕ) (words : Sizes) (ps : List Placed) → Fair file words ps → (rows : Rows)
-    → run today start (tokensOnly ps) noRows ≡ good rows → Clean nothing (tokensOnly ps) → fitting words (accepted ps rows) ≡ accepted ps rows
-accepted-fits file words ps f rows e c =
-    let r : (r : Reading (tokensOnly ps)) × (rows ≡ rowsOf (r .tree)) = accepted-reading file words ps (f .tokenized) rows e c in
-    room-fits words ps rows (rw (r .1) (f .rooms (r .0)))
+  -- and, in a fair file, room
+  pub accepted-fits : Usable rules → (file : List ℕ) (words : Sizes) (ps : List Placed) → Fair rules file words ps → (rows : Rows)
+      → run rules start (tokensOnly ps) noRows ≡ good rows → Clean nothing (tokensOnly ps) → fitting words (accepted ps rows) ≡ accepted ps rows
+  accepted-fits usable file words ps f rows e c =
+      let r : (r : ReadingBy rules (tokensOnly ps)) × (rows ≡ rowsOf (r .tree)) = accepted-reading usable file words ps (f .tokenized) rows e c in
+      room-fits words ps rows (rw (r .1) (f .rooms (r .0)))

@@ -9,21 +9,22 @@ use lib.Dec.{ltb}
 use lib.ListN.{length}
 use Rattle.star_rows.specs.Widths.{tokenWidth, setWidth, nameWidth, packetWidth, valueWidth}
 use Rattle.star_text.specs.Bytes.{mostBytes}
+use Rattle.star_lex.specs.Rules.{Rules}
 use Rattle.star_lex.specs.Tokens.{Placed}
-use Rattle.star_lex.specs.Found.{tokensIn}
+use Rattle.star_lex.specs.Found.{tokensInBy}
 use Rattle.star_lex.specs.Found as Found
 use Rattle.star_lex.proofs.Cases.{impossible}
 use Rattle.star_grammar.specs.Tables.{Rows}
-use Rattle.star_read.specs.Read.{Outcome, refused, accepted, Sizes, grammarOf, fitting, after, readOf}
+use Rattle.star_read.specs.Read.{Outcome, refused, accepted, Sizes, grammarOf, fitting, after, readBy}
 use Rattle.star_read.specs.Demands.{Room, Tokenized}
 
 pub refused≢accepted : (n place : ℕ) (ps : List Placed) (rows : Rows) → refused n place ≡ accepted ps rows → ⊥
 refused≢accepted n place ps rows e = impossible cc
 
-pub tokenized-read : (file : List ℕ) (words : Sizes) (ps : List Placed) → Tokenized file words ps
-    → readOf file words ≡ fitting words (grammarOf (length file) ps)
-unfolding readOf after tokensIn Found.fitting
-tokenized-read file words ps f =
+pub tokenized-read : (rules : Rules) (file : List ℕ) (words : Sizes) (ps : List Placed) → Tokenized rules file words ps
+    → readBy rules file words ≡ fitting words (grammarOf rules (length file) ps)
+unfolding readBy after tokensInBy Found.fitting
+tokenized-read rules file words ps f =
     rw (le-leb (length file) mostBytes (f .small), f .splits, le-leb (length ps * tokenWidth) (words .tokens) (f .room))
 
 pub room-fits : (words : Sizes) (ps : List Placed) (rows : Rows) → Room words rows → fitting words (accepted ps rows) ≡ accepted ps rows

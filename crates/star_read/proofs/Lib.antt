@@ -1,3 +1,4 @@
+pub mod Usable
 pub mod Readings
 pub mod Begin
 pub mod Verdict

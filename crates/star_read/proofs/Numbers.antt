@@ -7,11 +7,12 @@ use Prim.Native.Nat.{ℕ, _+_, _≤_}
 use native.Mathlib.Omega.{arith}
 use borrow.Author.Tests.{eqb-true, eqb-false}
 use lib.Dec.{eqb}
-use Rattle.star_lex.specs.Rules.{today, atLevels}
+use Rattle.star_lex.specs.Rules.{Rules, atLevels}
 use Rattle.star_lex.specs.Tokens.{Token, Each}
-use Rattle.star_lex.specs.WellFormed.{WellFormed}
+use Rattle.star_lex.specs.WellFormed.{FormedBy}
 use Rattle.star_lex.proofs.Cases.{impossible}
-use Rattle.star_lex.proofs.Each.{each-append}
+use Rattle.star_lex.proofs.Each.{each-append, each-implies}
+use Rattle.star_lex.proofs.WellFormed.{formed-levels}
 use Rattle.star_lex.proofs.FreshName.{fresh-name-of}
 use Rattle.star_grammar.specs.Tables.{Rows, noRows}
 use Rattle.star_grammar.specs.Machine.{Sort, sortOf, State, start, go, refuse, step, bad, endRun, walk}
@@ -24,7 +25,7 @@ use Rattle.star_grammar.proofs.Refusals.{InPacket, Refusal, refusal, global-ref
 use Rattle.star_grammar.proofs.Marks.{marks, walk-marked, packet-marked, Outside, outside}
 use Rattle.star_unique.specs.Repeat.{Taken, isTaken}
 use Rattle.star_unique.proofs.Names.{other-taken}
-use Rattle.star_read.specs.Demands.{BeginsShape, ValueSince, NoName, NumberAt, NumberAtEnd}
+use Rattle.star_read.specs.Demands.{Usable, BeginsShape, ValueSince, NoName, NumberAt, NumberAtEnd}
 use Rattle.star_read.proofs.Begin.{shape-walks, walks-shape}
 use Rattle.star_read.proofs.Since.{since-marks, marks-since}
 
@@ -32,109 +33,111 @@ global-sort : sortOf 12 ≡ Sort.global
 unfolding sortOf
 global-sort = refl
 
-sort-global : (t : Token) → WellFormed t → sortOf (t .kind) ≡ Sort.global → t .kind ≡ 12
+sort-global : {rules : Rules} (t : Token) → FormedBy rules t → sortOf (t .kind) ≡ Sort.global → t .kind ≡ 12
 sort-global t h e = let f : Fixed t = formed-fixed h in rw e at (sort-kind (t .kind) (f .least) (f .most))
 
 -- a name or code is no `global_`
 pub taken-no-global : (s : Taken) (t : Token) → isTaken s t ≡ true → t .kind ≡ 12 → ⊥
 taken-no-global s t e k = impossible (cc (other-taken s t (λ q. omega arith) (λ q. omega arith) (λ q. omega arith)))
 
-module _ (p : List Token) (formed : Each WellFormed p) (st : State) (r : Rows) (w : walk today start p noRows ≡ go st r) where
-  no-name : InPacket st → NoName p
+module _ (rules : Rules) (usable : Usable rules) (p : List Token) (formed : Each (FormedBy rules) p) (st : State) (r : Rows) (w : walk rules start p noRows ≡ go st r) where
+  no-name : InPacket st → NoName rules p
   no-name h x n b =
-      halted today start st p x noRows r 10 w (ap (λ k. step today st k r) (sort-name x n) ∙ packet-name today st r h) (shape-walks today (p ++ (x ∷ [])) b)
+      halted rules start st p x noRows r 10 w (ap (λ k. step rules st k r) (sort-name x n) ∙ packet-name rules st r h) (shape-walks rules (p ++ (x ∷ [])) b)
 
   value-since : InPacket st → ValueSince p
-  value-since h = marks-since p (each-fixed today p formed) (packet-marked st (marks false p) h (walk-marked today start st p noRows r false w refl))
+  value-since h = marks-since p (each-fixed rules p formed) (packet-marked st (marks false p) h (walk-marked rules start st p noRows r false w refl))
 
   -- after a token of this kind a file may go on
-  goes-on : (limit : ℕ) → today .levels ≤ limit → (t : Token) → WellFormed t → (s : State) (u : Rows)
-      → step (atLevels today limit) st (sortOf (t .kind)) r ≡ go s u → BeginsShape (atLevels today limit) (p ++ (t ∷ []))
+  goes-on : (limit : ℕ) → rules .levels ≤ limit → (t : Token) → FormedBy rules t → (s : State) (u : Rows)
+      → step (atLevels rules limit) st (sortOf (t .kind)) r ≡ go s u → BeginsShape (atLevels rules limit) (p ++ (t ∷ []))
   goes-on limit l t h s u e =
-      walks-shape (atLevels today limit) (omega arith) (p ++ (t ∷ [])) (each-append WellFormed p (t ∷ []) .1 (formed, (h, tt)))
-      (s, u, walk-step (atLevels today limit) start st p t noRows r s u (walk-limit today limit l start st p noRows r w) e)
+      walks-shape (atLevels rules limit) (record { some-level = omega (arith, usable .some-level); long-names = usable .long-names }) (p ++ (t ∷ []))
+      (each-implies (FormedBy rules) (FormedBy (atLevels rules limit)) (λ x. formed-levels limit) (p ++ (t ∷ []))
+      (each-append (FormedBy rules) p (t ∷ []) .1 (formed, (h, tt))))
+      (s, u, walk-step (atLevels rules limit) start st p t noRows r s u (walk-limit rules limit l start st p noRows r w) e)
 
-  outside-packet : (InPacket st → ⊥) → ValueSince p → NoName p → ⊥
+  outside-packet : (InPacket st → ⊥) → ValueSince p → NoName rules p → ⊥
   outside-packet h v n = at (outside st h)
     where
       at : Outside st → ⊥
       at (Outside.valueless f) =
-          let a : marks false p ≡ false = f (marks false p) (walk-marked today start st p noRows r false w refl) in
-          let b : marks false p ≡ true = since-marks p (each-fixed today p formed) v in
+          let a : marks false p ≡ false = f (marks false p) (walk-marked rules start st p noRows r false w refl) in
+          let b : marks false p ≡ true = since-marks p (each-fixed rules p formed) v in
           impossible cc
       at (Outside.nameable f) =
-          let x : (x : List ℕ) × WellFormed (record { kind = 6; content = x }) × (List·Memᴰ x [] → ⊥)
-          = fresh-name-of today 1 [] (omega arith) (omega arith) (omega arith) in
+          let x : (x : List ℕ) × FormedBy rules (record { kind = 6; content = x }) × (List·Memᴰ x [] → ⊥)
+          = fresh-name-of rules 1 [] (omega arith) (omega (arith, usable .long-names)) (omega arith) in
           let t : Token = record { kind = 6; content = x .0 } in
-          let g : (s : State) × (u : Rows) × (step today st Sort.name r ≡ go s u) = f today r in
+          let g : (s : State) × (u : Rows) × (step rules st Sort.name r ≡ go s u) = f rules r in
           n t (record { kind6 = refl })
-          (goes-on (today .levels) (omega arith) t (x .1) (g .0) (g .1) (ap (λ k. step today st k r) (sort-name t (record { kind6 = refl })) ∙ g .2))
+          (goes-on (rules .levels) (omega arith) t (x .1) (g .0) (g .1) (ap (λ k. step rules st k r) (sort-name t (record { kind6 = refl })) ∙ g .2))
 
-  pub number-end : (n i : ℕ) → endRun st r ≡ bad n i → NumberAtEnd p n
+  pub number-end : (n i : ℕ) → endRun st r ≡ bad n i → NumberAtEnd rules p n
   number-end n i e = at (end-refusal st r n i e)
     where
-      at : {n : ℕ} → EndRefusal st n → NumberAtEnd p n
+      at : {n : ℕ} → EndRefusal st n → NumberAtEnd rules p n
       at (EndRefusal.packet h) = NumberAtEnd.packet (value-since h) (no-name h)
       at (EndRefusal.other h) = NumberAtEnd.other (outside-packet h)
 
-  module _ (t : Token) (h : WellFormed t) where
+  module _ (t : Token) (h : FormedBy rules t) where
     -- a step that no number of levels takes
-    never : (m : ℕ) → ((l : ℕ) → step (atLevels today l) st (sortOf (t .kind)) r ≡ refuse m) → (limit : ℕ) → BeginsShape (atLevels today limit) (p ++ (t ∷ [])) → ⊥
+    never : (m : ℕ) → ((l : ℕ) → step (atLevels rules l) st (sortOf (t .kind)) r ≡ refuse m) → (limit : ℕ) → BeginsShape (atLevels rules limit) (p ++ (t ∷ [])) → ⊥
     never m f limit b =
-        halted (atLevels today (limit + today .levels)) start st p t noRows r m (walk-limit today (limit + today .levels) (omega arith) start st p noRows r w) (f (limit + today .levels))
-        (walks-limit (atLevels today limit) (limit + today .levels) (omega arith) start (p ++ (t ∷ [])) noRows (shape-walks (atLevels today limit) (p ++ (t ∷ [])) b))
+        halted (atLevels rules (limit + rules .levels)) start st p t noRows r m (walk-limit rules (limit + rules .levels) (omega arith) start st p noRows r w) (f (limit + rules .levels))
+        (walks-limit (atLevels rules limit) (limit + rules .levels) (omega arith) start (p ++ (t ∷ [])) noRows (shape-walks (atLevels rules limit) (p ++ (t ∷ [])) b))
 
-    number-of : (t .kind ≡ 12 → ⊥) → (n : ℕ) → step today st (sortOf (t .kind)) r ≡ refuse n → Refusal today st (sortOf (t .kind)) r n → NumberAt p t n
+    number-of : (t .kind ≡ 12 → ⊥) → (n : ℕ) → step rules st (sortOf (t .kind)) r ≡ refuse n → Refusal rules st (sortOf (t .kind)) r n → NumberAt rules p t n
     number-of k n e (Refusal.global g) = absurd (k (sort-global t h g))
     number-of k n e (Refusal.deep more l s u g) =
-        NumberAt.deep k (λ b. halted today start st p t noRows r 11 w e (shape-walks today (p ++ (t ∷ [])) b)) more (goes-on more l t h s u g)
+        NumberAt.deep k (λ b. halted rules start st p t noRows r 11 w e (shape-walks rules (p ++ (t ∷ [])) b)) more (goes-on more l t h s u g)
     number-of k n e (Refusal.packet i f) = NumberAt.packet k (never 10 f) (value-since i) (no-name i)
     number-of k n e (Refusal.other i f) = NumberAt.other k (never 8 f) (outside-packet i)
 
     -- `global_` before all others
-    number-global : (n : ℕ) → t .kind ≡ 12 → step today st (sortOf (t .kind)) r ≡ refuse n → NumberAt p t n
+    number-global : (n : ℕ) → t .kind ≡ 12 → step rules st (sortOf (t .kind)) r ≡ refuse n → NumberAt rules p t n
     number-global n k e =
-        let d : refuse 12 ≡ refuse n = sym (global-refused today st r) ∙ ap (λ s. step today st s r) (sym global-sort ∙ ap sortOf (sym k)) ∙ e in
+        let d : refuse 12 ≡ refuse n = sym (global-refused rules st r) ∙ ap (λ s. step rules st s r) (sym global-sort ∙ ap sortOf (sym k)) ∙ e in
         let m : 12 ≡ n = cc in
-        let g : NumberAt p t 12 = NumberAt.global k in
+        let g : NumberAt rules p t 12 = NumberAt.global k in
         rw m at g
 
-    pub number-token : (n : ℕ) → step today st (sortOf (t .kind)) r ≡ refuse n → NumberAt p t n
+    pub number-token : (n : ℕ) → step rules st (sortOf (t .kind)) r ≡ refuse n → NumberAt rules p t n
     number-token n e = at (eqb (t .kind) 12) refl
       where
-        at : (b : Bool) → eqb (t .kind) 12 ≡ b → NumberAt p t n
+        at : (b : Bool) → eqb (t .kind) 12 ≡ b → NumberAt rules p t n
         at true d = number-global n (eqb-true (t .kind) 12 d) e
-        at false d = number-of (eqb-false (t .kind) 12 d) n e (refusal today st (sortOf (t .kind)) r n e)
+        at false d = number-of (eqb-false (t .kind) 12 d) n e (refusal rules st (sortOf (t .kind)) r n e)
 
 -- the numbers exclude one another
-pub numbers-exclude : {p : List Token} {t : Token} {m n : ℕ} → NumberAt p t m → NumberAt p t n → m ≡ n
-numbers-exclude (NumberAt.global k) (NumberAt.global k′) = refl
-numbers-exclude (NumberAt.global k) (NumberAt.taken k′ b′) = absurd (k′ k)
-numbers-exclude (NumberAt.global k) (NumberAt.deep k′ f′ l′ b′) = absurd (k′ k)
-numbers-exclude (NumberAt.global k) (NumberAt.packet k′ f′ v′ w′) = absurd (k′ k)
-numbers-exclude (NumberAt.global k) (NumberAt.other k′ f′ o′) = absurd (k′ k)
-numbers-exclude (NumberAt.taken k b) (NumberAt.global k′) = absurd (k k′)
-numbers-exclude (NumberAt.taken k b) (NumberAt.taken k′ b′) = refl
-numbers-exclude (NumberAt.taken k b) (NumberAt.deep k′ f′ l′ b′) = absurd (f′ b)
-numbers-exclude (NumberAt.taken k b) (NumberAt.packet k′ f′ v′ w′) = absurd (f′ (today .levels) b)
-numbers-exclude (NumberAt.taken k b) (NumberAt.other k′ f′ o′) = absurd (f′ (today .levels) b)
-numbers-exclude (NumberAt.deep k f l b) (NumberAt.global k′) = absurd (k k′)
-numbers-exclude (NumberAt.deep k f l b) (NumberAt.taken k′ b′) = absurd (f b′)
-numbers-exclude (NumberAt.deep k f l b) (NumberAt.deep k′ f′ l′ b′) = refl
-numbers-exclude (NumberAt.deep k f l b) (NumberAt.packet k′ f′ v′ w′) = absurd (f′ l b)
-numbers-exclude (NumberAt.deep k f l b) (NumberAt.other k′ f′ o′) = absurd (f′ l b)
-numbers-exclude (NumberAt.packet k f v w) (NumberAt.global k′) = absurd (k k′)
-numbers-exclude (NumberAt.packet k f v w) (NumberAt.taken k′ b′) = absurd (f (today .levels) b′)
-numbers-exclude (NumberAt.packet k f v w) (NumberAt.deep k′ f′ l′ b′) = absurd (f l′ b′)
-numbers-exclude (NumberAt.packet k f v w) (NumberAt.packet k′ f′ v′ w′) = refl
-numbers-exclude (NumberAt.packet k f v w) (NumberAt.other k′ f′ o′) = absurd (o′ v w)
-numbers-exclude (NumberAt.other k f o) (NumberAt.global k′) = absurd (k k′)
-numbers-exclude (NumberAt.other k f o) (NumberAt.taken k′ b′) = absurd (f (today .levels) b′)
-numbers-exclude (NumberAt.other k f o) (NumberAt.deep k′ f′ l′ b′) = absurd (f l′ b′)
-numbers-exclude (NumberAt.other k f o) (NumberAt.packet k′ f′ v′ w′) = absurd (o v′ w′)
-numbers-exclude (NumberAt.other k f o) (NumberAt.other k′ f′ o′) = refl
+pub numbers-exclude : {rules : Rules} {p : List Token} {t : Token} {m n : ℕ} → NumberAt rules p t m → NumberAt rules p t n → m ≡ n
+numbers-exclude {rules} (NumberAt.global k) (NumberAt.global k′) = refl
+numbers-exclude {rules} (NumberAt.global k) (NumberAt.taken k′ b′) = absurd (k′ k)
+numbers-exclude {rules} (NumberAt.global k) (NumberAt.deep k′ f′ l′ b′) = absurd (k′ k)
+numbers-exclude {rules} (NumberAt.global k) (NumberAt.packet k′ f′ v′ w′) = absurd (k′ k)
+numbers-exclude {rules} (NumberAt.global k) (NumberAt.other k′ f′ o′) = absurd (k′ k)
+numbers-exclude {rules} (NumberAt.taken k b) (NumberAt.global k′) = absurd (k k′)
+numbers-exclude {rules} (NumberAt.taken k b) (NumberAt.taken k′ b′) = refl
+numbers-exclude {rules} (NumberAt.taken k b) (NumberAt.deep k′ f′ l′ b′) = absurd (f′ b)
+numbers-exclude {rules} (NumberAt.taken k b) (NumberAt.packet k′ f′ v′ w′) = absurd (f′ (rules .levels) b)
+numbers-exclude {rules} (NumberAt.taken k b) (NumberAt.other k′ f′ o′) = absurd (f′ (rules .levels) b)
+numbers-exclude {rules} (NumberAt.deep k f l b) (NumberAt.global k′) = absurd (k k′)
+numbers-exclude {rules} (NumberAt.deep k f l b) (NumberAt.taken k′ b′) = absurd (f b′)
+numbers-exclude {rules} (NumberAt.deep k f l b) (NumberAt.deep k′ f′ l′ b′) = refl
+numbers-exclude {rules} (NumberAt.deep k f l b) (NumberAt.packet k′ f′ v′ w′) = absurd (f′ l b)
+numbers-exclude {rules} (NumberAt.deep k f l b) (NumberAt.other k′ f′ o′) = absurd (f′ l b)
+numbers-exclude {rules} (NumberAt.packet k f v w) (NumberAt.global k′) = absurd (k k′)
+numbers-exclude {rules} (NumberAt.packet k f v w) (NumberAt.taken k′ b′) = absurd (f (rules .levels) b′)
+numbers-exclude {rules} (NumberAt.packet k f v w) (NumberAt.deep k′ f′ l′ b′) = absurd (f l′ b′)
+numbers-exclude {rules} (NumberAt.packet k f v w) (NumberAt.packet k′ f′ v′ w′) = refl
+numbers-exclude {rules} (NumberAt.packet k f v w) (NumberAt.other k′ f′ o′) = absurd (o′ v w)
+numbers-exclude {rules} (NumberAt.other k f o) (NumberAt.global k′) = absurd (k k′)
+numbers-exclude {rules} (NumberAt.other k f o) (NumberAt.taken k′ b′) = absurd (f (rules .levels) b′)
+numbers-exclude {rules} (NumberAt.other k f o) (NumberAt.deep k′ f′ l′ b′) = absurd (f l′ b′)
+numbers-exclude {rules} (NumberAt.other k f o) (NumberAt.packet k′ f′ v′ w′) = absurd (o v′ w′)
+numbers-exclude {rules} (NumberAt.other k f o) (NumberAt.other k′ f′ o′) = refl
 
-pub end-numbers-exclude : {p : List Token} {m n : ℕ} → NumberAtEnd p m → NumberAtEnd p n → m ≡ n
+pub end-numbers-exclude : {rules : Rules} {p : List Token} {m n : ℕ} → NumberAtEnd rules p m → NumberAtEnd rules p n → m ≡ n
 end-numbers-exclude (NumberAtEnd.packet v w) (NumberAtEnd.packet v′ w′) = refl
 end-numbers-exclude (NumberAtEnd.packet v w) (NumberAtEnd.other o) = absurd (o v w)
 end-numbers-exclude (NumberAtEnd.other o) (NumberAtEnd.packet v w) = absurd (o v w)

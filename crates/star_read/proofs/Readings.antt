@@ -2,42 +2,46 @@
 -- rows of the run are the reading's.
 use mathlib.Core.Path.{_≡_}
 use mathlib.Core.List.{List}
-use native.Mathlib.Omega.{arith}
-use Rattle.star_lex.specs.Rules.{Rules, today}
+use Prim.Native.Nat.{_≤_}
+use Rattle.star_lex.specs.Rules.{Rules}
 use Rattle.star_lex.specs.Tokens.{Token, Each}
-use Rattle.star_lex.specs.WellFormed.{WellFormed}
+use Rattle.star_lex.specs.WellFormed.{FormedBy}
 use Rattle.star_grammar.specs.Tree.{File, fileYield, FileBy}
 use Rattle.star_grammar.specs.Tables.{Rows, noRows, rowsOf}
-use Rattle.star_grammar.specs.Reading.{Reading}
+use Rattle.star_grammar.specs.Reading.{ReadingBy}
 use Rattle.star_grammar.specs.Machine.{start, good, run}
 use Rattle.star_grammar.proofs.Complete.{complete}
 use Rattle.star_grammar.proofs.Sound.{rows-of-run}
+use Rattle.star_grammar.proofs.Limits.{file-today}
 use Rattle.star_grammar.proofs.Formed.{each-fixed}
 use Rattle.star_unique.specs.Repeat.{nothing}
 use Rattle.star_unique.proofs.Clean.{Clean, clean-repeat, repeat-clean}
 use Rattle.star_unique.proofs.Repeats.{repeat-distinct}
 
-pub yield-run : (rules : Rules) (f : File) (ts : List Token) → fileYield f ≡ ts → FileBy rules f → run rules start ts noRows ≡ good (rowsOf f)
-yield-run rules f ts e w = rw e at (complete rules f w)
+module _ (rules : Rules) where
+  pub yield-run : (f : File) (ts : List Token) → fileYield f ≡ ts → FileBy rules f → run rules start ts noRows ≡ good (rowsOf f)
+  yield-run f ts e w = rw e at (complete rules f w)
 
-pub reading-run : (ts : List Token) (r : Reading ts) → run today start ts noRows ≡ good (rowsOf (r .tree))
-reading-run ts r = yield-run today (r .tree) ts (r .yield) (r .whole)
+  pub reading-run : (ts : List Token) (r : ReadingBy rules ts) → run rules start ts noRows ≡ good (rowsOf (r .tree))
+  reading-run ts r = yield-run (r .tree) ts (r .yield) (r .whole)
 
-pub reading-clean : (ts : List Token) → Reading ts → Clean nothing ts
-reading-clean ts r = rw (r .yield) at (repeat-clean nothing (fileYield (r .tree)) (repeat-distinct 8 (r .tree) (r .whole) .0 (r .distinct)))
+  pub reading-clean : (ts : List Token) → ReadingBy rules ts → Clean nothing ts
+  reading-clean ts r =
+      rw (r .yield) at (repeat-clean nothing (fileYield (r .tree))
+      (repeat-distinct (rules .levels) (r .tree) (file-today rules (r .tree) (r .whole)) .0 (r .distinct)))
 
--- a whole tree of tokens that repeat nothing
-pub tree-reading : (ts : List Token) (f : File) → fileYield f ≡ ts → FileBy today f → Clean nothing ts → Reading ts
-tree-reading ts f e w c = record {
-  tree = f;
-  yield = e;
-  whole = w;
-  distinct = repeat-distinct 8 f w .1 (clean-repeat nothing (fileYield f) (rw e c));
-}
+  -- a whole tree of tokens that repeat nothing
+  pub tree-reading : (ts : List Token) (f : File) → fileYield f ≡ ts → FileBy rules f → Clean nothing ts → ReadingBy rules ts
+  tree-reading ts f e w c = record {
+    tree = f;
+    yield = e;
+    whole = w;
+    distinct = repeat-distinct (rules .levels) f (file-today rules f w) .1 (clean-repeat nothing (fileYield f) (rw e c));
+  }
 
-pub run-reading : (ts : List Token) (rows : Rows) → Each WellFormed ts → run today start ts noRows ≡ good rows → Clean nothing ts
-    → (r : Reading ts) × (rows ≡ rowsOf (r .tree))
-unfolding tree-reading
-run-reading ts rows h e c =
-    let s : (f : File) × (fileYield f ≡ ts) × FileBy today f × (rows ≡ rowsOf f) = rows-of-run today (omega arith) ts (each-fixed today ts h) rows e in
-    (tree-reading ts (s .0) (s .1) (s .2) c, s .3)
+  pub run-reading : 1 ≤ rules .levels → (ts : List Token) (rows : Rows) → Each (FormedBy rules) ts → run rules start ts noRows ≡ good rows
+      → Clean nothing ts → (r : ReadingBy rules ts) × (rows ≡ rowsOf (r .tree))
+  unfolding tree-reading
+  run-reading least ts rows h e c =
+      let s : (f : File) × (fileYield f ≡ ts) × FileBy rules f × (rows ≡ rowsOf f) = rows-of-run rules least ts (each-fixed rules ts h) rows e in
+      (tree-reading ts (s .0) (s .1) (s .2) c, s .3)

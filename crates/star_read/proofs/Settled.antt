@@ -7,17 +7,18 @@ use Prim.Native.Nat.{ℕ, _*_, _≤_, _<_}
 use borrow.Author.Tests.{le-leb, lt-leb, lt-ltb, le-ltb, leb-true, leb-false, ltb-true, ltb-false}
 use lib.Dec.{leb, ltb}
 use lib.ListN.{length}
-use Rattle.star_rows.specs.Widths.{setWidth, nameWidth, packetWidth, valueWidth}
+use Rattle.star_rows.specs.Widths.{tokenWidth, setWidth, nameWidth, packetWidth, valueWidth}
 use Rattle.star_text.specs.Bytes.{mostBytes}
+use Rattle.star_lex.specs.Rules.{Rules}
 use Rattle.star_lex.specs.Tokens.{Placed}
-use Rattle.star_lex.specs.Split.{Split, tokensOf}
+use Rattle.star_lex.specs.Split.{Split, tokensBy}
 use Rattle.star_lex.specs.Split as Split
-use Rattle.star_lex.specs.Found.{tokensIn}
+use Rattle.star_lex.specs.Found.{tokensInBy}
 use Rattle.star_lex.specs.Found as Found
 use Rattle.star_grammar.specs.Tables.{Rows, rowsOf}
-use Rattle.star_grammar.specs.Reading.{Reading}
-use Rattle.star_read.specs.Read.{Outcome, refused, accepted, Sizes, tokensOnly, grammarOf, fitting, after, readOf}
-use Rattle.star_read.specs.Demands.{Room, Tokenized, Bad, Short, Settles, ReadingSettled, OneOutcome}
+use Rattle.star_grammar.specs.Reading.{ReadingBy}
+use Rattle.star_read.specs.Read.{Outcome, refused, accepted, Sizes, tokensOnly, grammarOf, fitting, after, readBy}
+use Rattle.star_read.specs.Demands.{Usable, Room, Tokenized, Bad, Short, Settles, ReadingSettled, OneOutcome}
 use Rattle.star_read.proofs.Verdict.{Verdict, verdict}
 use Rattle.star_read.proofs.Fitting.{refused≢accepted, tokenized-read, room-fits}
 use Rattle.star_read.proofs.FairFile.{accepted-reading}
@@ -54,78 +55,78 @@ short-fits words ps rows table (Short.packets a b c) = rw (le-ltb _ _ a, le-ltb 
 short-fits words ps rows table (Short.values a b c d) = rw (le-ltb _ _ a, le-ltb _ _ b, le-ltb _ _ c, lt-ltb _ _ d)
 
 -- from the tokens on
-module _ (file : List ℕ) (words : Sizes) (ps : List Placed) (f : Tokenized file words ps) where
-  settles-rows : (r : Reading (tokensOnly ps)) (o : Outcome) → Fits words ps (rowsOf (r .tree)) o → Settles file words o
+module _ (rules : Rules) (usable : Usable rules) (file : List ℕ) (words : Sizes) (ps : List Placed) (f : Tokenized rules file words ps) where
+  settles-rows : (r : ReadingBy rules (tokensOnly ps)) (o : Outcome) → Fits words ps (rowsOf (r .tree)) o → Settles rules file words o
   settles-rows r o (Fits.short table h) = Settles.no-room ps table f r h
   settles-rows r o (Fits.room h) = Settles.reads ps f r h
 
-  settles-grammar : (o : Outcome) → grammarOf (length file) ps ≡ o → Verdict ps (length file) o → Settles file words (fitting words o)
+  settles-grammar : (o : Outcome) → grammarOf rules (length file) ps ≡ o → Verdict rules ps (length file) o → Settles rules file words (fitting words o)
   unfolding fitting
   settles-grammar (refused n place) e v =
-      Settles.no-reading ps n place f (λ r. refused≢accepted n place ps (rowsOf (r .tree)) (sym e ∙ reading-accepted ps (length file) r))
-      (verdict-bad file words ps f n place (refused n place) v refl)
+      Settles.no-reading ps n place f (λ r. refused≢accepted n place ps (rowsOf (r .tree)) (sym e ∙ reading-accepted rules ps (length file) r))
+      (verdict-bad rules usable file words ps f n place (refused n place) v refl)
   settles-grammar (accepted qs rows) e v =
-      let k = accepted-verdict ps qs (length file) rows _ v refl in
-      let r : (r : Reading (tokensOnly ps)) × (rows ≡ rowsOf (r .tree)) = accepted-reading file words ps f rows (k .1) (k .2) in
+      let k = accepted-verdict rules ps qs (length file) rows _ v refl in
+      let r : (r : ReadingBy rules (tokensOnly ps)) × (rows ≡ rowsOf (r .tree)) = accepted-reading rules usable file words ps f rows (k .1) (k .2) in
       rw (← (k .0), r .1) (settles-rows (r .0) _ (fits words ps (rowsOf (r .0 .tree))))
 
 -- the checks before the grammar
-module _ (file : List ℕ) (words : Sizes) where
-  over-size-read : mostBytes < length file → readOf file words ≡ refused 1 0
-  unfolding readOf after tokensIn
+module _ (rules : Rules) (usable : Usable rules) (file : List ℕ) (words : Sizes) where
+  over-size-read : mostBytes < length file → readBy rules file words ≡ refused 1 0
+  unfolding readBy after tokensInBy
   over-size-read h = rw (lt-leb (length file) mostBytes h)
 
-  unsplit-read : (n place : ℕ) → length file ≤ mostBytes → tokensOf file ≡ Split.refused n place → readOf file words ≡ refused n place
-  unfolding readOf after tokensIn Found.fitting
+  unsplit-read : (n place : ℕ) → length file ≤ mostBytes → tokensBy rules file ≡ Split.refused n place → readBy rules file words ≡ refused n place
+  unfolding readBy after tokensInBy Found.fitting
   unsplit-read n place small e = rw (le-leb (length file) mostBytes small, e)
 
-  no-room-read : (ps : List Placed) → length file ≤ mostBytes → tokensOf file ≡ Split.accepted ps → words .tokens < length ps * 3
-      → readOf file words ≡ refused 7 1
-  unfolding readOf after tokensIn Found.fitting
-  no-room-read ps small e h = rw (le-leb (length file) mostBytes small, e, lt-leb (length ps * 3) (words .tokens) h)
+  no-room-read : (ps : List Placed) → length file ≤ mostBytes → tokensBy rules file ≡ Split.accepted ps → words .tokens < length ps * tokenWidth
+      → readBy rules file words ≡ refused 7 1
+  unfolding readBy after tokensInBy Found.fitting
+  no-room-read ps small e h = rw (le-leb (length file) mostBytes small, e, lt-leb (length ps * tokenWidth) (words .tokens) h)
 
 pub reading-settled : ReadingSettled
-reading-settled file words = bySize (leb (length file) mostBytes) refl
+reading-settled rules usable file words = bySize (leb (length file) mostBytes) refl
   where
-    byRoom : (ps : List Placed) → length file ≤ mostBytes → tokensOf file ≡ Split.accepted ps → (b : Bool) → leb (length ps * 3) (words .tokens) ≡ b
-        → Settles file words (readOf file words)
+    byRoom : (ps : List Placed) → length file ≤ mostBytes → tokensBy rules file ≡ Split.accepted ps → (b : Bool) → leb (length ps * tokenWidth) (words .tokens) ≡ b
+        → Settles rules file words (readBy rules file words)
     byRoom ps small e true d =
-        let f : Tokenized file words ps = record { small = small; splits = e; room = leb-true _ _ d } in
-        rw (tokenized-read file words ps f) (settles-grammar file words ps f (grammarOf (length file) ps) refl (verdict ps (length file)))
+        let f : Tokenized rules file words ps = record { small = small; splits = e; room = leb-true _ _ d } in
+        rw (tokenized-read rules file words ps f) (settles-grammar rules usable file words ps f (grammarOf rules (length file) ps) refl (verdict rules ps (length file)))
     byRoom ps small e false d =
         let h : words .tokens < length ps * 3 = leb-false _ _ d in
-        rw (no-room-read file words ps small e h) (Settles.no-token-room ps small e h)
+        rw (no-room-read rules usable file words ps small e h) (Settles.no-token-room ps small e h)
 
-    bySplit : length file ≤ mostBytes → (s : Split) → tokensOf file ≡ s → Settles file words (readOf file words)
-    bySplit small (Split.refused n place) e = rw (unsplit-read file words n place small e) (Settles.unsplit n place small e)
-    bySplit small (Split.accepted ps) e = byRoom ps small e (leb (length ps * 3) (words .tokens)) refl
+    bySplit : length file ≤ mostBytes → (s : Split) → tokensBy rules file ≡ s → Settles rules file words (readBy rules file words)
+    bySplit small (Split.refused n place) e = rw (unsplit-read rules usable file words n place small e) (Settles.unsplit n place small e)
+    bySplit small (Split.accepted ps) e = byRoom ps small e (leb (length ps * tokenWidth) (words .tokens)) refl
 
-    bySize : (b : Bool) → leb (length file) mostBytes ≡ b → Settles file words (readOf file words)
-    bySize true d = bySplit (leb-true _ _ d) (tokensOf file) refl
-    bySize false d = let h : mostBytes < length file = leb-false _ _ d in rw (over-size-read file words h) (Settles.over-size h)
+    bySize : (b : Bool) → leb (length file) mostBytes ≡ b → Settles rules file words (readBy rules file words)
+    bySize true d = bySplit (leb-true _ _ d) (tokensBy rules file) refl
+    bySize false d = let h : mostBytes < length file = leb-false _ _ d in rw (over-size-read rules usable file words h) (Settles.over-size h)
 
 -- what is settled is what is read
-module _ (file : List ℕ) (words : Sizes) where
-  read-rows : (ps : List Placed) → Tokenized file words ps → (r : Reading (tokensOnly ps)) → readOf file words ≡ fitting words (accepted ps (rowsOf (r .tree)))
-  read-rows ps f r = tokenized-read file words ps f ∙ ap (fitting words) (reading-accepted ps (length file) r)
+module _ (rules : Rules) (usable : Usable rules) (file : List ℕ) (words : Sizes) where
+  read-rows : (ps : List Placed) → Tokenized rules file words ps → (r : ReadingBy rules (tokensOnly ps)) → readBy rules file words ≡ fitting words (accepted ps (rowsOf (r .tree)))
+  read-rows ps f r = tokenized-read rules file words ps f ∙ ap (fitting words) (reading-accepted rules ps (length file) r)
 
-  read-bad : (ps : List Placed) (n place : ℕ) → Tokenized file words ps → (Reading (tokensOnly ps) → ⊥) → Bad file ps n place → readOf file words ≡ refused n place
+  read-bad : (ps : List Placed) (n place : ℕ) → Tokenized rules file words ps → (ReadingBy rules (tokensOnly ps) → ⊥) → Bad rules file ps n place → readBy rules file words ≡ refused n place
   unfolding fitting
-  read-bad ps n place f none b = tokenized-read file words ps f ∙ by (grammarOf (length file) ps) (verdict ps (length file))
+  read-bad ps n place f none b = tokenized-read rules file words ps f ∙ by (grammarOf rules (length file) ps) (verdict rules ps (length file))
     where
-      by : (o : Outcome) → Verdict ps (length file) o → fitting words o ≡ refused n place
-      by (refused m i) v = let k : (m ≡ n) × (i ≡ place) = bad-once (verdict-bad file words ps f m i (refused m i) v refl) b in cc (k .0, k .1)
+      by : (o : Outcome) → Verdict rules ps (length file) o → fitting words o ≡ refused n place
+      by (refused m i) v = let k : (m ≡ n) × (i ≡ place) = bad-once rules (verdict-bad rules usable file words ps f m i (refused m i) v refl) b in cc (k .0, k .1)
       by (accepted qs rows) v =
-          let k = accepted-verdict ps qs (length file) rows _ v refl in
-          absurd (none (accepted-reading file words ps f rows (k .1) (k .2) .0))
+          let k = accepted-verdict rules ps qs (length file) rows _ v refl in
+          absurd (none (accepted-reading rules usable file words ps f rows (k .1) (k .2) .0))
 
-  settled-read : (o : Outcome) → Settles file words o → readOf file words ≡ o
-  settled-read _ (Settles.over-size h) = over-size-read file words h
-  settled-read _ (Settles.unsplit n place small e) = unsplit-read file words n place small e
-  settled-read _ (Settles.no-token-room ps small e h) = no-room-read file words ps small e h
+  settled-read : (o : Outcome) → Settles rules file words o → readBy rules file words ≡ o
+  settled-read _ (Settles.over-size h) = over-size-read rules usable file words h
+  settled-read _ (Settles.unsplit n place small e) = unsplit-read rules usable file words n place small e
+  settled-read _ (Settles.no-token-room ps small e h) = no-room-read rules usable file words ps small e h
   settled-read _ (Settles.no-reading ps n place f none b) = read-bad ps n place f none b
   settled-read _ (Settles.no-room ps table f r h) = read-rows ps f r ∙ short-fits words ps (rowsOf (r .tree)) table h
   settled-read _ (Settles.reads ps f r h) = read-rows ps f r ∙ room-fits words ps (rowsOf (r .tree)) h
 
 pub one-outcome : OneOutcome
-one-outcome file words o u a b = sym (settled-read file words o a) ∙ settled-read file words u b
+one-outcome rules usable file words o u a b = sym (settled-read rules usable file words o a) ∙ settled-read rules usable file words u b

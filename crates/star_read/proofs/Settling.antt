@@ -132,15 +132,15 @@ same-words n before after k = rw (k .sets, k .names, k .packets, k .values)
 
 module _ (file table : List ℕ) (count : ℕ) (h : Holds file table count) (before mid : FourTables) (k : SameSizes before mid) (r : Parsed)
     (a : Answers count (rowsRun count table) before r mid) (j : Judged)
-    (e : j ≡ judgedOf (fitting (sizesOf (length table) mid) (grammarOf (length file) (placed (tokensOf file))))) where
+    (e : j ≡ judgedOf (fitting (sizesOf (length table) mid) (grammarOf today (length file) (placed (tokensOf file))))) where
   answers : Answers count (run today start (fileTokens file) noRows) before r mid
   answers = subst (λ x. Answers count x before r mid) (held-run file table count h) a
 
-  judged-before : j ≡ judgedOf (fitting (sizesOf (length table) before) (grammarOf (length file) (placed (tokensOf file))))
-  judged-before = e ∙ ap (λ w. judgedOf (fitting w (grammarOf (length file) (placed (tokensOf file))))) (same-words (length table) before mid k)
+  judged-before : j ≡ judgedOf (fitting (sizesOf (length table) before) (grammarOf today (length file) (placed (tokensOf file))))
+  judged-before = e ∙ ap (λ w. judgedOf (fitting w (grammarOf today (length file) (placed (tokensOf file))))) (same-words (length table) before mid k)
 
   pub outcome-refused : (j .refusal ≡ 0 → ⊥)
-      → fitting (sizesOf (length table) before) (grammarOf (length file) (placed (tokensOf file))) ≡ refused (j .refusal) (j .place)
+      → fitting (sizesOf (length table) before) (grammarOf today (length file) (placed (tokensOf file))) ≡ refused (j .refusal) (j .place)
   outcome-refused f = judged-refused _ j judged-before f
 
   pub outcome-settled : j .refusal ≡ 0

@@ -2,6 +2,7 @@
 use mathlib.Core.Path.{_≡_}
 use mathlib.Core.List.{List}
 use lib.ListN.{length}
+use Rattle.star_lex.specs.Rules.{today}
 use Rattle.star_lex.specs.Tokens.{Placed}
 use Rattle.star_lex.specs.Split.{tokensOf, placed}
 use Rattle.star_lex.specs.Split as Split
@@ -10,15 +11,15 @@ use Rattle.star_lex.proofs.Answers.{tokens-accepted}
 use Rattle.star_unique.specs.Compared.{comparedOf}
 use Rattle.star_unique.specs.declared.Compared.{Compared}
 use Rattle.star_unique.proofs.Comparing.{compared-refused}
-use Rattle.star_read.specs.Read.{refused, Sizes, fitting, grammarOf, after, readOf}
+use Rattle.star_read.specs.Read.{refused, Sizes, fitting, grammarOf, after, readBy, readOf}
 use Prim.Native.Nat.{ℕ}
 
 pub read-refused : (file : List ℕ) (w : Sizes) (r : Compared) → r ≡ comparedOf (tokensIn file (w .tokens)) → (r .refusal ≡ 0 → ⊥)
     → readOf file w ≡ refused (r .refusal) (r .place)
-unfolding readOf after
+unfolding readBy after
 read-refused file w r e f = rw (compared-refused (tokensIn file (w .tokens)) r e f)
 
 pub read-after : (file : List ℕ) (w : Sizes) (ps : List Placed) → tokensIn file (w .tokens) ≡ Split.accepted ps
-    → readOf file w ≡ fitting w (grammarOf (length file) (placed (tokensOf file)))
-unfolding readOf after placed
+    → readOf file w ≡ fitting w (grammarOf today (length file) (placed (tokensOf file)))
+unfolding readBy after placed
 read-after file w ps e = rw (e, tokens-accepted file (w .tokens) ps e)

@@ -9,7 +9,7 @@ use borrow.Author.Tests.{ltb-true, ltb-false}
 use lib.Dec.{ltb}
 use lib.ListN.{length, length-map}
 use lib.Seq.{append-snoc}
-use Rattle.star_lex.specs.Rules.{today}
+use Rattle.star_lex.specs.Rules.{Rules}
 use Rattle.star_lex.specs.Tokens.{Token, Placed}
 use Rattle.star_lex.proofs.Cases.{impossible}
 use Rattle.star_grammar.specs.Tables.{Rows, noRows}
@@ -22,16 +22,16 @@ use Rattle.star_unique.proofs.Clean.{Clean, repeat-after, unclean-repeat, repea
 use Rattle.star_unique.proofs.First.{FirstTaken, first-taken, clean-before}
 use Rattle.star_read.specs.Read.{Outcome, refused, accepted, tokensOnly, placeOf, decide, grammarOf}
 
-pub data Verdict (ps : List Placed) (size : ℕ) : Outcome → Type 0 where
-  reads : (rows : Rows) → run today start (tokensOnly ps) noRows ≡ good rows → Clean nothing (tokensOnly ps) → Verdict ps size (accepted ps rows)
+pub data Verdict (rules : Rules) (ps : List Placed) (size : ℕ) : Outcome → Type 0 where
+  reads : (rows : Rows) → run rules start (tokensOnly ps) noRows ≡ good rows → Clean nothing (tokensOnly ps) → Verdict rules ps size (accepted ps rows)
   repeats : (place : ℕ) (p : List Placed) (t : Placed) (q : List Placed) → ps ≡ p ++ (t ∷ q) → place ≡ t .at → Clean nothing (tokensOnly p)
-      → Walks today start (tokensOnly p ++ (t .token ∷ [])) noRows → isTaken (takesAll nothing (tokensOnly p)) (t .token) ≡ true
-      → Verdict ps size (refused 9 place)
+      → Walks rules start (tokensOnly p ++ (t .token ∷ [])) noRows → isTaken (takesAll nothing (tokensOnly p)) (t .token) ≡ true
+      → Verdict rules ps size (refused 9 place)
   halts : (n place : ℕ) (p : List Placed) (t : Placed) (q : List Placed) → ps ≡ p ++ (t ∷ q) → place ≡ t .at → Clean nothing (tokensOnly p)
-      → (st : State) (r : Rows) → walk today start (tokensOnly p) noRows ≡ go st r → step today st (sortOf (t .token .kind)) r ≡ refuse n
-      → Verdict ps size (refused n place)
+      → (st : State) (r : Rows) → walk rules start (tokensOnly p) noRows ≡ go st r → step rules st (sortOf (t .token .kind)) r ≡ refuse n
+      → Verdict rules ps size (refused n place)
   ends : (n place i : ℕ) → place ≡ size → Clean nothing (tokensOnly ps)
-      → (st : State) (r : Rows) → walk today start (tokensOnly ps) noRows ≡ go st r → endRun st r ≡ bad n i → Verdict ps size (refused n place)
+      → (st : State) (r : Rows) → walk rules start (tokensOnly ps) noRows ≡ go st r → endRun st r ≡ bad n i → Verdict rules ps size (refused n place)
 
 place-at : (size : ℕ) (p : List Placed) (t : Placed) (q : List Placed) → placeOf size (p ++ (t ∷ q)) (length p) ≡ t .at
 unfolding placeOf
@@ -68,21 +68,21 @@ token-at [] (x ∷ a) b c e = impossible cc
 token-at (p ∷ ps) [] b c e = record { before = []; here = p; after = ps; is = refl; tokens = refl; token = cc }
 token-at (p ∷ ps) (x ∷ a) b c e = at-later p ps x a b (cc) (token-at ps a b c (cc))
 
-module _ (ps : List Placed) (size : ℕ) where
+module _ (rules : Rules) (ps : List Placed) (size : ℕ) where
   at-place : (a : List Token) (b : Token) (k : At ps a b) (i : ℕ) → i ≡ length a → placeOf size ps i ≡ k .here .at
   at-place a b k i e = rw (e, k .tokens, length-map, k .is) (place-at size (k .before) (k .here) (k .after))
 
   -- the first token of a walk that repeats
-  verdict-taken : (p : List Token) → Walks today start p noRows → (f : FirstTaken nothing p) → At ps (f .before) (f .token) → (i : ℕ)
-      → i ≡ length (f .before) → Verdict ps size (refused 9 (placeOf size ps i))
+  verdict-taken : (p : List Token) → Walks rules start p noRows → (f : FirstTaken nothing p) → At ps (f .before) (f .token) → (i : ℕ)
+      → i ≡ length (f .before) → Verdict rules ps size (refused 9 (placeOf size ps i))
   verdict-taken p w f k i e =
       Verdict.repeats (placeOf size ps i) (k .before) (k .here) (k .after) (k .is) (at-place (f .before) (f .token) k i e) (rw (k .tokens) at (f .clean))
-      (rw (k .tokens, k .token) at (walks-first today (f .before ++ (f .token ∷ [])) (f .after) start noRows
+      (rw (k .tokens, k .token) at (walks-first rules (f .before ++ (f .token ∷ [])) (f .after) start noRows
       (rw (f .is ∙ sym (append-snoc (f .before) (f .token) (f .after))) at w)))
       (rw (k .tokens, k .token) at (f .taken))
 
-  verdict-repeats : (p q : List Token) → tokensOnly ps ≡ p ++ q → Walks today start p noRows → firstRepeat nothing (tokensOnly ps) < length p
-      → Verdict ps size (refused 9 (placeOf size ps (firstRepeat nothing (tokensOnly ps))))
+  verdict-repeats : (p q : List Token) → tokensOnly ps ≡ p ++ q → Walks rules start p noRows → firstRepeat nothing (tokensOnly ps) < length p
+      → Verdict rules ps size (refused 9 (placeOf size ps (firstRepeat nothing (tokensOnly ps))))
   verdict-repeats p q e w h =
       let same : firstRepeat nothing (tokensOnly ps) ≡ firstRepeat nothing (p ++ q) = ap (firstRepeat nothing) e in
       let early : firstRepeat nothing p < length p = unclean-repeat nothing p (λ c. omega (arith, repeat-after nothing p q c)) in
@@ -94,48 +94,48 @@ module _ (ps : List Placed) (size : ℕ) where
   verdict-clean : (p q : List Token) → tokensOnly ps ≡ p ++ q → length p ≤ firstRepeat nothing (tokensOnly ps) → Clean nothing p
   verdict-clean p q e h = clean-before nothing p q (rw e at h)
 
-  verdict-good : (rows : Rows) → run today start (tokensOnly ps) noRows ≡ good rows
-      → Verdict ps size (decide size ps (firstRepeat nothing (tokensOnly ps)) (good rows))
+  verdict-good : (rows : Rows) → run rules start (tokensOnly ps) noRows ≡ good rows
+      → Verdict rules ps size (decide size ps (firstRepeat nothing (tokensOnly ps)) (good rows))
   unfolding decide
   verdict-good rows e = by (ltb (firstRepeat nothing (tokensOnly ps)) (length ps)) refl
     where
       by : (b : Bool) → ltb (firstRepeat nothing (tokensOnly ps)) (length ps) ≡ b
-          → Verdict ps size (cond b (refused 9 (placeOf size ps (firstRepeat nothing (tokensOnly ps)))) (accepted ps rows))
+          → Verdict rules ps size (cond b (refused 9 (placeOf size ps (firstRepeat nothing (tokensOnly ps)))) (accepted ps rows))
       by true d =
-          verdict-repeats (tokensOnly ps) [] (sym (append-nil (tokensOnly ps))) (good-walks today (tokensOnly ps) start noRows rows e)
+          verdict-repeats (tokensOnly ps) [] (sym (append-nil (tokensOnly ps))) (good-walks rules (tokensOnly ps) start noRows rows e)
           (rw length-map (ltb-true _ _ d))
       by false d =
           Verdict.reads rows e (verdict-clean (tokensOnly ps) [] (sym (append-nil (tokensOnly ps))) (rw length-map (ltb-false _ _ d)))
 
-  verdict-bad : (n i : ℕ) → Halts today start (tokensOnly ps) noRows n i
-      → Verdict ps size (decide size ps (firstRepeat nothing (tokensOnly ps)) (bad n i))
+  verdict-bad : (n i : ℕ) → Halts rules start (tokensOnly ps) noRows n i
+      → Verdict rules ps size (decide size ps (firstRepeat nothing (tokensOnly ps)) (bad n i))
   unfolding decide
   verdict-bad n i (Halts.token p t q s u e w f c) = by (ltb (firstRepeat nothing (tokensOnly ps)) i) refl (token-at ps p t q e)
     where
       by : (b : Bool) → ltb (firstRepeat nothing (tokensOnly ps)) i ≡ b → At ps p t
-          → Verdict ps size (cond b (refused 9 (placeOf size ps (firstRepeat nothing (tokensOnly ps)))) (refused n (placeOf size ps i)))
-      by true d k = verdict-repeats p (t ∷ q) e (s, u, w) (omega (arith, ltb-true, walk-length today s p u w))
+          → Verdict rules ps size (cond b (refused 9 (placeOf size ps (firstRepeat nothing (tokensOnly ps)))) (refused n (placeOf size ps i)))
+      by true d k = verdict-repeats p (t ∷ q) e (s, u, w) (omega (arith, ltb-true, walk-length rules s p u w))
       by false d k =
-          Verdict.halts n (placeOf size ps i) (k .before) (k .here) (k .after) (k .is) (at-place p t k i (c ∙ walk-length today s p u w))
-          (rw (k .tokens) at (verdict-clean p (t ∷ q) e (omega (arith, ltb-false, walk-length today s p u w)))) s u
+          Verdict.halts n (placeOf size ps i) (k .before) (k .here) (k .after) (k .is) (at-place p t k i (c ∙ walk-length rules s p u w))
+          (rw (k .tokens) at (verdict-clean p (t ∷ q) e (omega (arith, ltb-false, walk-length rules s p u w)))) s u
           (rw (k .tokens) at w) (rw (k .token) at f)
   verdict-bad n i (Halts.end s u w f) = by (ltb (firstRepeat nothing (tokensOnly ps)) i) refl
     where
       whole : i ≡ length ps
-      whole = end-passes s u n i f ∙ walk-length today s (tokensOnly ps) u w ∙ length-map ps _
+      whole = end-passes s u n i f ∙ walk-length rules s (tokensOnly ps) u w ∙ length-map ps _
 
       by : (b : Bool) → ltb (firstRepeat nothing (tokensOnly ps)) i ≡ b
-          → Verdict ps size (cond b (refused 9 (placeOf size ps (firstRepeat nothing (tokensOnly ps)))) (refused n (placeOf size ps i)))
+          → Verdict rules ps size (cond b (refused 9 (placeOf size ps (firstRepeat nothing (tokensOnly ps)))) (refused n (placeOf size ps i)))
       by true d =
           verdict-repeats (tokensOnly ps) [] (sym (append-nil (tokensOnly ps))) (s, u, w) (rw length-map (omega (arith, ltb-true, whole)))
       by false d =
           Verdict.ends n (placeOf size ps i) i (rw whole (place-end size ps))
           (verdict-clean (tokensOnly ps) [] (sym (append-nil (tokensOnly ps))) (rw length-map (omega (arith, ltb-false, whole)))) s u w f
 
-  pub verdict : Verdict ps size (grammarOf size ps)
+  pub verdict : Verdict rules ps size (grammarOf rules size ps)
   unfolding grammarOf
-  verdict = by (run today start (tokensOnly ps) noRows) refl
+  verdict = by (run rules start (tokensOnly ps) noRows) refl
     where
-      by : (x : Run) → run today start (tokensOnly ps) noRows ≡ x → Verdict ps size (decide size ps (firstRepeat nothing (tokensOnly ps)) x)
-      by (bad n i) e = verdict-bad n i (bad-halts today (tokensOnly ps) start noRows n i e)
+      by : (x : Run) → run rules start (tokensOnly ps) noRows ≡ x → Verdict rules ps size (decide size ps (firstRepeat nothing (tokensOnly ps)) x)
+      by (bad n i) e = verdict-bad n i (bad-halts rules (tokensOnly ps) start noRows n i e)
       by (good rows) e = verdict-good rows e

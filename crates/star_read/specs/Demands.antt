@@ -7,23 +7,30 @@ use lib.ListN.{length}
 use Rattle.star_rows.specs.Widths.{tokenWidth, setWidth, nameWidth, packetWidth, valueWidth}
 use Rattle.star_text.specs.Bytes.{mostBytes}
 use Rattle.star_lex.specs.Rules.{Rules, today, atLevels}
+use Rattle.star_lex.specs.Rules.{Rules, atLevels}
 use Rattle.star_lex.specs.Tokens.{Token, Placed, Each}
-use Rattle.star_lex.specs.Split.{tokensOf}
+use Rattle.star_lex.specs.Split.{tokensBy, tokensOf}
 use Rattle.star_lex.specs.Split as Split
 use Rattle.star_grammar.specs.Tree.{File, fileYield, FileBy, IsName, IsValue}
 use Rattle.star_grammar.specs.Tables.{Rows, rowsOf}
-use Rattle.star_grammar.specs.Reading.{Reading}
+use Rattle.star_grammar.specs.Reading.{ReadingBy, Reading}
 use Rattle.star_read.specs.Answer.{answerOf, Tables, zeroTables, tablesOf}
 use Rattle.star_read.specs.declared.Reading as Answer
-use Rattle.star_read.specs.Read.{Outcome, refused, accepted, Sizes, tokensOnly, readOf}
+use Rattle.star_read.specs.Read.{Outcome, refused, accepted, Sizes, tokensOnly, readOf, readBy}
 
--- a row of tokens begins a file, of any length, that splits into tokens and has a reading, when the file's first tokens have the same kinds
--- and contents
-pub record Begins (p : List Token) : Type 0 where
+-- rules by which every file that is begun can be completed: loops have a level, and names may be so long that a file within the size limit has not
+-- taken all of them
+pub record Usable (rules : Rules) : Type 0 where
+  pub some-level : 1 ≤ rules .levels
+  pub long-names : 22 ≤ rules .longest
+
+-- a row of tokens begins a file, of any length, that by the rules splits into tokens and has a reading, when the file's first tokens have
+-- the same kinds and contents
+pub record Begins (rules : Rules) (p : List Token) : Type 0 where
   pub file : List ℕ
   pub tokens : List Placed
-  pub splits : tokensOf file ≡ Split.accepted tokens
-  pub reading : Reading (tokensOnly tokens)
+  pub splits : tokensBy rules file ≡ Split.accepted tokens
+  pub reading : ReadingBy rules (tokensOnly tokens)
   pub rest : List Token
   pub starts : tokensOnly tokens ≡ p ++ rest
 
@@ -35,46 +42,47 @@ pub record Room (words : Sizes) (rows : Rows) : Type 0 where
   pub values : length (rows .values) * valueWidth ≤ words .values
 
 -- a file within the size limit that splits into these tokens, and a table 1 with room for them
-pub record Tokenized (file : List ℕ) (words : Sizes) (ps : List Placed) : Type 0 where
+pub record Tokenized (rules : Rules) (file : List ℕ) (words : Sizes) (ps : List Placed) : Type 0 where
   pub small : length file ≤ mostBytes
-  pub splits : tokensOf file ≡ Split.accepted ps
+  pub splits : tokensBy rules file ≡ Split.accepted ps
   pub room : length ps * tokenWidth ≤ words .tokens
 
 -- such a file, and tables 2 to 5 with room for the rows of its reading, if it has one
-pub record Fair (file : List ℕ) (words : Sizes) (ps : List Placed) : Type 0 where
-  pub tokenized : Tokenized file words ps
-  pub rooms : (r : Reading (tokensOnly ps)) → Room words (rowsOf (r .tree))
+pub record Fair (rules : Rules) (file : List ℕ) (words : Sizes) (ps : List Placed) : Type 0 where
+  pub tokenized : Tokenized rules file words ps
+  pub rooms : (r : ReadingBy rules (tokensOnly ps)) → Room words (rowsOf (r .tree))
 
 -- a token of the file that, with those before it, begins no file, while those before it do; or, if there is none, the file's length
-pub data FirstBad (file : List ℕ) (ps : List Placed) (place : ℕ) : Type 0 where
-  token : (p : List Placed) (t : Placed) (q : List Placed) → ps ≡ p ++ (t ∷ q) → place ≡ t .at → Begins (tokensOnly p)
-      → (Begins (tokensOnly (p ++ (t ∷ []))) → ⊥) → FirstBad file ps place
-  end : place ≡ length file → Begins (tokensOnly ps) → FirstBad file ps place
+pub data FirstBad (rules : Rules) (file : List ℕ) (ps : List Placed) (place : ℕ) : Type 0 where
+  token : (p : List Placed) (t : Placed) (q : List Placed) → ps ≡ p ++ (t ∷ q) → place ≡ t .at → Begins rules (tokensOnly p)
+      → (Begins rules (tokensOnly (p ++ (t ∷ []))) → ⊥) → FirstBad rules file ps place
+  end : place ≡ length file → Begins rules (tokensOnly ps) → FirstBad rules file ps place
 
 -- demand 3, first sentence: accepted exactly when it has a reading
 abbrev pub AcceptedExactly : Type 0
-AcceptedExactly = (file : List ℕ) (words : Sizes) (ps : List Placed) → Fair file words ps
-    → ((rows : Rows) × (readOf file words ≡ accepted ps rows)) ↔ Reading (tokensOnly ps)
+AcceptedExactly = (rules : Rules) → Usable rules → (file : List ℕ) (words : Sizes) (ps : List Placed) → Fair rules file words ps
+    → ((rows : Rows) × (readBy rules file words ≡ accepted ps rows)) ↔ ReadingBy rules (tokensOnly ps)
 
 -- second: any two readings are equal
 abbrev pub OneReading : Type 0
-OneReading = (ts : List Token) (r s : Reading ts) → r .tree ≡ s .tree
+OneReading = (rules : Rules) (ts : List Token) (r s : ReadingBy rules ts) → r .tree ≡ s .tree
 
 -- third: after acceptance tables and counts are those of the reading
 abbrev pub RowsOfReading : Type 0
-RowsOfReading = (file : List ℕ) (words : Sizes) (ps : List Placed) (rows : Rows) → readOf file words ≡ accepted ps rows
-    → (tokensOf file ≡ Split.accepted ps) × (r : Reading (tokensOnly ps)) × (rows ≡ rowsOf (r .tree))
+RowsOfReading = (rules : Rules) → Usable rules → (file : List ℕ) (words : Sizes) (ps : List Placed) (rows : Rows)
+    → readBy rules file words ≡ accepted ps rows
+    → (tokensBy rules file ≡ Split.accepted ps) × (r : ReadingBy rules (tokensOnly ps)) × (rows ≡ rowsOf (r .tree))
 
 -- fourth: the place of a refusal
 abbrev pub PlaceOfRefusal : Type 0
-PlaceOfRefusal = (file : List ℕ) (words : Sizes) (ps : List Placed) → Fair file words ps
-    → (n place : ℕ) → readOf file words ≡ refused n place → FirstBad file ps place
+PlaceOfRefusal = (rules : Rules) → Usable rules → (file : List ℕ) (words : Sizes) (ps : List Placed) → Fair rules file words ps
+    → (n place : ℕ) → readBy rules file words ≡ refused n place → FirstBad rules file ps place
 
 -- the same by the rules, with nothing to be unique
 pub record BeginsShape (rules : Rules) (p : List Token) : Type 0 where
   pub file : List ℕ
   pub tokens : List Placed
-  pub splits : tokensOf file ≡ Split.accepted tokens
+  pub splits : tokensBy rules file ≡ Split.accepted tokens
   pub tree : File
   pub yield : fileYield tree ≡ tokensOnly tokens
   pub whole : FileBy rules tree
@@ -92,40 +100,44 @@ pub record ValueSince (p : List Token) : Type 0 where
   pub no-loop : Each (λ t. t .kind ≡ 4 → ⊥) since
 
 -- no name at all may come next
-abbrev pub NoName : List Token → Type 0
-NoName p = (x : Token) → IsName x → BeginsShape today (p ++ (x ∷ [])) → ⊥
+abbrev pub NoName : (rules : Rules) → List Token → Type 0
+NoName rules p = (x : Token) → IsName x → BeginsShape rules (p ++ (x ∷ [])) → ⊥
 
 -- the number of refusal of a token after a row that begins a file, which it does not with the token
-pub data NumberAt (p : List Token) (t : Token) : ℕ → Type 0 where
-  global : t .kind ≡ 12 → NumberAt p t 12
-  taken : (t .kind ≡ 12 → ⊥) → BeginsShape today (p ++ (t ∷ [])) → NumberAt p t 9
-  deep : (t .kind ≡ 12 → ⊥) → (BeginsShape today (p ++ (t ∷ [])) → ⊥) → (limit : ℕ) → BeginsShape (atLevels today limit) (p ++ (t ∷ [])) → NumberAt p t 11
-  packet : (t .kind ≡ 12 → ⊥) → ((limit : ℕ) → BeginsShape (atLevels today limit) (p ++ (t ∷ [])) → ⊥) → ValueSince p → NoName p → NumberAt p t 10
-  other : (t .kind ≡ 12 → ⊥) → ((limit : ℕ) → BeginsShape (atLevels today limit) (p ++ (t ∷ [])) → ⊥) → (ValueSince p → NoName p → ⊥) → NumberAt p t 8
+pub data NumberAt (rules : Rules) (p : List Token) (t : Token) : ℕ → Type 0 where
+  global : t .kind ≡ 12 → NumberAt rules p t 12
+  taken : (t .kind ≡ 12 → ⊥) → BeginsShape rules (p ++ (t ∷ [])) → NumberAt rules p t 9
+  deep : (t .kind ≡ 12 → ⊥) → (BeginsShape rules (p ++ (t ∷ [])) → ⊥) → (limit : ℕ) → BeginsShape (atLevels rules limit) (p ++ (t ∷ []))
+      → NumberAt rules p t 11
+  packet : (t .kind ≡ 12 → ⊥) → ((limit : ℕ) → BeginsShape (atLevels rules limit) (p ++ (t ∷ [])) → ⊥) → ValueSince p → NoName rules p
+      → NumberAt rules p t 10
+  other : (t .kind ≡ 12 → ⊥) → ((limit : ℕ) → BeginsShape (atLevels rules limit) (p ++ (t ∷ [])) → ⊥) → (ValueSince p → NoName rules p → ⊥)
+      → NumberAt rules p t 8
 
 -- the number of refusal at the end of a row that begins a file
-pub data NumberAtEnd (p : List Token) : ℕ → Type 0 where
-  packet : ValueSince p → NoName p → NumberAtEnd p 10
-  other : (ValueSince p → NoName p → ⊥) → NumberAtEnd p 8
+pub data NumberAtEnd (rules : Rules) (p : List Token) : ℕ → Type 0 where
+  packet : ValueSince p → NoName rules p → NumberAtEnd rules p 10
+  other : (ValueSince p → NoName rules p → ⊥) → NumberAtEnd rules p 8
 
 -- which of 8 to 12 is given
 abbrev pub RefusalNumber : Type 0
-RefusalNumber = (file : List ℕ) (words : Sizes) (ps : List Placed) → Fair file words ps
-    → (n place : ℕ) → readOf file words ≡ refused n place
-    → ((p : List Placed) (t : Placed) (q : List Placed) → ps ≡ p ++ (t ∷ q) → Begins (tokensOnly p)
-    → (Begins (tokensOnly (p ++ (t ∷ []))) → ⊥) → NumberAt (tokensOnly p) (t .token) n)
-    × (Begins (tokensOnly ps) → NumberAtEnd (tokensOnly ps) n)
+RefusalNumber = (rules : Rules) → Usable rules → (file : List ℕ) (words : Sizes) (ps : List Placed) → Fair rules file words ps
+    → (n place : ℕ) → readBy rules file words ≡ refused n place
+    → ((p : List Placed) (t : Placed) (q : List Placed) → ps ≡ p ++ (t ∷ q) → Begins rules (tokensOnly p)
+    → (Begins rules (tokensOnly (p ++ (t ∷ []))) → ⊥) → NumberAt rules (tokensOnly p) (t .token) n)
+    × (Begins rules (tokensOnly ps) → NumberAtEnd rules (tokensOnly ps) n)
 
 -- 8 to 12 exclude one another, at a token and at the end
 abbrev pub NumbersExclude : Type 0
-NumbersExclude = ((p : List Token) (t : Token) (m n : ℕ) → NumberAt p t m → NumberAt p t n → m ≡ n)
-    × ((p : List Token) (m n : ℕ) → NumberAtEnd p m → NumberAtEnd p n → m ≡ n)
+NumbersExclude = (rules : Rules)
+    → ((p : List Token) (t : Token) (m n : ℕ) → NumberAt rules p t m → NumberAt rules p t n → m ≡ n)
+    × ((p : List Token) (m n : ℕ) → NumberAtEnd rules p m → NumberAtEnd rules p n → m ≡ n)
 
 -- refusal and place where a file has no reading: of the first token that, with those before it, begins no file, or of the file's end
-pub data Bad (file : List ℕ) (ps : List Placed) : (number place : ℕ) → Type 0 where
-  token : (n : ℕ) (p : List Placed) (t : Placed) (q : List Placed) → ps ≡ p ++ (t ∷ q) → Begins (tokensOnly p)
-      → (Begins (tokensOnly (p ++ (t ∷ []))) → ⊥) → NumberAt (tokensOnly p) (t .token) n → Bad file ps n (t .at)
-  end : (n : ℕ) → Begins (tokensOnly ps) → NumberAtEnd (tokensOnly ps) n → Bad file ps n (length file)
+pub data Bad (rules : Rules) (file : List ℕ) (ps : List Placed) : (number place : ℕ) → Type 0 where
+  token : (n : ℕ) (p : List Placed) (t : Placed) (q : List Placed) → ps ≡ p ++ (t ∷ q) → Begins rules (tokensOnly p)
+      → (Begins rules (tokensOnly (p ++ (t ∷ []))) → ⊥) → NumberAt rules (tokensOnly p) (t .token) n → Bad rules file ps n (t .at)
+  end : (n : ℕ) → Begins rules (tokensOnly ps) → NumberAtEnd rules (tokensOnly ps) n → Bad rules file ps n (length file)
 
 -- the lowest of tables 2 to 5 that is too short for its rows
 pub data Short (words : Sizes) (rows : Rows) : (table : ℕ) → Type 0 where
@@ -137,25 +149,26 @@ pub data Short (words : Sizes) (rows : Rows) : (table : ℕ) → Type 0 where
       → words .values < length (rows .values) * valueWidth → Short words rows 5
 
 -- what reading gives, of any file and any tables: the refusals in order of checking, or the rows of the reading
-pub data Settles (file : List ℕ) (words : Sizes) : Outcome → Type 0 where
-  over-size : mostBytes < length file → Settles file words (refused 1 0)
-  unsplit : (n place : ℕ) → length file ≤ mostBytes → tokensOf file ≡ Split.refused n place → Settles file words (refused n place)
-  no-token-room : (ps : List Placed) → length file ≤ mostBytes → tokensOf file ≡ Split.accepted ps → words .tokens < length ps * tokenWidth
-      → Settles file words (refused 7 1)
-  no-reading : (ps : List Placed) (n place : ℕ) → Tokenized file words ps → (Reading (tokensOnly ps) → ⊥) → Bad file ps n place
-      → Settles file words (refused n place)
-  no-room : (ps : List Placed) (table : ℕ) → Tokenized file words ps → (r : Reading (tokensOnly ps)) → Short words (rowsOf (r .tree)) table
-      → Settles file words (refused 7 table)
-  reads : (ps : List Placed) → Tokenized file words ps → (r : Reading (tokensOnly ps)) → Room words (rowsOf (r .tree))
-      → Settles file words (accepted ps (rowsOf (r .tree)))
+pub data Settles (rules : Rules) (file : List ℕ) (words : Sizes) : Outcome → Type 0 where
+  over-size : mostBytes < length file → Settles rules file words (refused 1 0)
+  unsplit : (n place : ℕ) → length file ≤ mostBytes → tokensBy rules file ≡ Split.refused n place → Settles rules file words (refused n place)
+  no-token-room : (ps : List Placed) → length file ≤ mostBytes → tokensBy rules file ≡ Split.accepted ps → words .tokens < length ps * tokenWidth
+      → Settles rules file words (refused 7 1)
+  no-reading : (ps : List Placed) (n place : ℕ) → Tokenized rules file words ps → (ReadingBy rules (tokensOnly ps) → ⊥) → Bad rules file ps n place
+      → Settles rules file words (refused n place)
+  no-room : (ps : List Placed) (table : ℕ) → Tokenized rules file words ps → (r : ReadingBy rules (tokensOnly ps)) → Short words (rowsOf (r .tree)) table
+      → Settles rules file words (refused 7 table)
+  reads : (ps : List Placed) → Tokenized rules file words ps → (r : ReadingBy rules (tokensOnly ps)) → Room words (rowsOf (r .tree))
+      → Settles rules file words (accepted ps (rowsOf (r .tree)))
 
 -- reading is settled for every file and any tables
 abbrev pub ReadingSettled : Type 0
-ReadingSettled = (file : List ℕ) (words : Sizes) → Settles file words (readOf file words)
+ReadingSettled = (rules : Rules) → Usable rules → (file : List ℕ) (words : Sizes) → Settles rules file words (readBy rules file words)
 
 -- and there is one outcome
 abbrev pub OneOutcome : Type 0
-OneOutcome = (file : List ℕ) (words : Sizes) (o u : Outcome) → Settles file words o → Settles file words u → o ≡ u
+OneOutcome = (rules : Rules) → Usable rules → (file : List ℕ) (words : Sizes) (o u : Outcome) → Settles rules file words o
+    → Settles rules file words u → o ≡ u
 
 -- the numbers that reading gives, each with the places that it may have in a file of that many bytes
 pub data Numbered (size : ℕ) : (number place : ℕ) → Type 0 where

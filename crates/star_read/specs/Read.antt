@@ -7,10 +7,11 @@ use lib.Dec.{ltb}
 use lib.ListN.{length}
 use Rattle.star_rows.specs.Widths.{setWidth, nameWidth, packetWidth, valueWidth}
 use Rattle.star_lex.specs.Rules.{today}
+use Rattle.star_lex.specs.Rules.{Rules, today}
 use Rattle.star_lex.specs.Tokens.{Token, Placed}
 use Rattle.star_lex.specs.Split.{Split}
 use Rattle.star_lex.specs.Split as Split
-use Rattle.star_lex.specs.Found.{tokensIn}
+use Rattle.star_lex.specs.Found.{tokensInBy}
 use Rattle.star_grammar.specs.Tables.{Rows, noRows}
 use Rattle.star_grammar.specs.Machine.{Run, bad, good, run, start}
 use Rattle.star_unique.specs.Repeat.{nothing, firstRepeat}
@@ -42,8 +43,8 @@ unfoldable pub decide : (size : ℕ) → List Placed → (taken : ℕ) → Run �
 decide size ps taken (bad n i) = cond (ltb taken i) (refused 9 (placeOf size ps taken)) (refused n (placeOf size ps i))
 decide size ps taken (good rows) = cond (ltb taken (length ps)) (refused 9 (placeOf size ps taken)) (accepted ps rows)
 
-unfoldable pub grammarOf : (size : ℕ) → List Placed → Outcome
-grammarOf size ps = decide size ps (firstRepeat nothing (tokensOnly ps)) (run today start (tokensOnly ps) noRows)
+unfoldable pub grammarOf : (rules : Rules) → (size : ℕ) → List Placed → Outcome
+grammarOf rules size ps = decide size ps (firstRepeat nothing (tokensOnly ps)) (run rules start (tokensOnly ps) noRows)
 
 -- last, 7 for tables 2 to 5, the lowest number first
 unfoldable pub fitting : Sizes → Outcome → Outcome
@@ -55,9 +56,13 @@ fitting words (accepted ps rows) =
     (cond (ltb (words .values) (length (rows .values) * valueWidth)) (refused 7 5) (accepted ps rows))))
 
 -- after the refusals of the tokens
-unfoldable pub after : (size : ℕ) → Sizes → Split → Outcome
-after size words (Split.refused n place) = refused n place
-after size words (Split.accepted ps) = fitting words (grammarOf size ps)
+unfoldable pub after : (rules : Rules) → (size : ℕ) → Sizes → Split → Outcome
+after rules size words (Split.refused n place) = refused n place
+after rules size words (Split.accepted ps) = fitting words (grammarOf rules size ps)
 
-unfoldable pub readOf : List ℕ → Sizes → Outcome
-readOf file words = after (length file) words (tokensIn file (words .tokens))
+unfoldable pub readBy : (rules : Rules) → List ℕ → Sizes → Outcome
+readBy rules file words = after rules (length file) words (tokensInBy rules file (words .tokens))
+
+-- by today's rules
+abbrev pub readOf : List ℕ → Sizes → Outcome
+readOf file words = readBy today file words

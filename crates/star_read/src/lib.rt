@@ -94,7 +94,7 @@ fn judge(
     requires { ⌜ taken ≡ firstRepeat nothing (fileTokens (now file)) ⌝ }
     requires { ⌜ Ran (run today start (fileTokens (now file)) noRows) count rows ⌝ }
     ensures { λ r. ⌜ r ≡ judgedOf (fitting (words (length (now (tokens .entry))) sets names packets values)
-        (grammarOf (length (now (file .entry))) (placed (tokensOf (now (file .entry)))))) ⌝ }
+        (grammarOf today (length (now (file .entry))) (placed (tokensOf (now (file .entry)))))) ⌝ }
 {
     if taken < rows.tokens {
         return Judged {
@@ -174,9 +174,9 @@ fn read_tables(
     requires { ⌜ Holds (now file) (now tokens) count ⌝ }
     requires { ⌜ taken ≡ firstRepeat nothing (fileTokens (now file)) ⌝ }
     ensures { λ r. ⌜ r ≡ answerOf (fitting (sizes (tables (now (tokens .entry)) (now (sets .entry)) (now (names .entry)) (now (packets .entry)) (now (values .entry))))
-        (grammarOf (length (now (file .entry))) (placed (tokensOf (now (file .entry)))))) ⌝ }
+        (grammarOf today (length (now (file .entry))) (placed (tokensOf (now (file .entry)))))) ⌝ }
     ensures { λ _. ⌜ Leaves (fitting (sizes (tables (now (tokens .entry)) (now (sets .entry)) (now (names .entry)) (now (packets .entry)) (now (values .entry))))
-        (grammarOf (length (now (file .entry))) (placed (tokensOf (now (file .entry))))))
+        (grammarOf today (length (now (file .entry))) (placed (tokensOf (now (file .entry))))))
         (sizes (tables (now (tokens .entry)) (now (sets .entry)) (now (names .entry)) (now (packets .entry)) (now (values .entry))))
         (tables (now (tokens .exit)) (now (sets .exit)) (now (names .exit)) (now (packets .exit)) (now (values .exit))) ⌝ }
 {

@@ -7,6 +7,7 @@ use native.Mathlib.Omega.{arith}
 use borrow.Author.Tests.{le-leb}
 use lib.ListN.{length, length-map}
 use Rattle.star_text.specs.Bytes.{mostBytes}
+use Rattle.star_lex.specs.Rules.{today}
 use Rattle.star_lex.specs.Tokens.{Token, Placed}
 use Rattle.star_lex.specs.Split.{tokensOf}
 use Rattle.star_lex.specs.Split as Split
@@ -18,6 +19,7 @@ use Rattle.star_grammar.specs.Reading.{Reading}
 use Rattle.star_read.specs.Read.{Sizes, tokensOnly, readOf}
 use Rattle.star_read.specs.Read as Read
 use Rattle.star_read.specs.Demands.{Room, Fair}
+use Rattle.star_read.proofs.Usable.{today-usable}
 use Rattle.star_read.proofs.Demand3.{accepted-exactly, one-reading, rows-of-reading}
 use Rattle.star_write.specs.Write.{fitting, after, writeOf}
 use Rattle.star_write.specs.Demands.{ReadsBack, RoundTrip, WritesAgain}
@@ -31,15 +33,15 @@ moved e r = record { tree = r .tree; yield = r .yield ∙ e; whole = r .whole; d
 module _ (plain : List ℕ) (words : Sizes) (ps qs : List Placed) (r : Reading (tokensOnly ps)) where
   same-rows : tokensOnly qs ≡ tokensOnly ps → (s : Reading (tokensOnly qs)) → rowsOf (s .tree) ≡ rowsOf (r .tree)
   unfolding moved
-  same-rows e s = ap rowsOf (one-reading (tokensOnly qs) s (moved (sym e) r))
+  same-rows e s = ap rowsOf (one-reading today (tokensOnly qs) s (moved (sym e) r))
 
   read-rows : tokensOnly qs ≡ tokensOnly ps → (rows : Rows) → readOf plain words ≡ Read.accepted qs rows → rows ≡ rowsOf (r .tree)
-  read-rows e rows a = let b = rows-of-reading plain words qs rows a in b .2 ∙ same-rows e (b .1)
+  read-rows e rows a = let b = rows-of-reading today today-usable plain words qs rows a in b .2 ∙ same-rows e (b .1)
 
   reads-same : length plain ≤ mostBytes → tokensOf plain ≡ Split.accepted qs → tokensOnly qs ≡ tokensOnly ps → length ps * 3 ≤ words .tokens
       → Room words (rowsOf (r .tree)) → readOf plain words ≡ Read.accepted qs (rowsOf (r .tree))
   reads-same small splits e table rooms =
-      let fair : Fair plain words qs = record {
+      let fair : Fair today plain words qs = record {
         tokenized = record {
           small = small;
           splits = splits;
@@ -47,13 +49,13 @@ module _ (plain : List ℕ) (words : Sizes) (ps qs : List Placed) (r : Reading (
         };
         rooms = λ s. rw (same-rows e s) rooms;
       } in
-      let a = accepted-exactly plain words qs fair .1 (moved (sym e) r) in
+      let a = accepted-exactly today today-usable plain words qs fair .1 (moved (sym e) r) in
       a .1 ∙ ap (λ rows. Read.accepted qs rows) (read-rows e (a .0) (a .1))
 
 pub round-trip : RoundTrip
 round-trip file words room ps rows plain e others table rooms =
     let w : Wrote file words room ps rows plain = wrote file words room ps rows plain e in
-    let r = rows-of-reading file words ps rows (w .reads) in
+    let r = rows-of-reading today today-usable file words ps rows (w .reads) in
     let l = lex-plain (tokensOnly ps) (split-well-formed file ps (r .0)) in
     record {
       tokens = l .0;

@@ -20,6 +20,29 @@ Inv-loop tokens count sets₀ names₀ packets₀ values₀ p₀ block sets name
 abbrev μ-loop : tie.MeasureT-loop
 μ-loop tokens count sets₀ names₀ packets₀ values₀ p₀ block sets names packets values p = count - p .at
 
+-- from where the entries are read: the turn and its test, the block's row, and the beginning
+abbrev test : tie.After-read-entries Inv-loop μ-loop → tie.Then1 Inv-loop μ-loop
+test c = c .before .before .before .before
+
+abbrev turn : tie.After-read-entries Inv-loop μ-loop → tie.At-loop Inv-loop μ-loop
+turn c = c .before .before .before .before .before .before
+
+abbrev opened : tie.After-read-entries Inv-loop μ-loop → tie.After-put-set Inv-loop μ-loop
+opened c = c .before .before .before .before .before .before .before .before .before
+
+abbrev start : tie.After-read-entries Inv-loop μ-loop → tie.Start Inv-loop μ-loop
+start c = c .before .before .before .before .before .before .before .before .before .before .before .before .before .before .before .before
+
+-- where the entries were read: before a refusal of theirs, before the block is closed, and a turn before the next
+abbrev refused-at : tie.Then2 Inv-loop μ-loop → tie.After-read-entries Inv-loop μ-loop
+refused-at c = c .before .before .before .before .before .before .before .before
+
+abbrev closed-at : tie.Then3 Inv-loop μ-loop → tie.After-read-entries Inv-loop μ-loop
+closed-at c = c .before .before .before .before .before .before .before .before .before .before
+
+abbrev came-back : tie.After-slice-known12 Inv-loop μ-loop → tie.After-read-entries Inv-loop μ-loop
+came-back c = c .before .before .before .before .before .before .before .before .before .before .before .before .before .before .before .before .before .before .before .before .before .before .before
+
 put-set-requires : tie.Need-put-set-requires Inv-loop μ-loop
 put-set-requires c κs = omega (arith, c .before .before .before .before .before .before .pre)
 
@@ -40,60 +63,60 @@ read-entries-requires : tie.Need-read-entries-requires Inv-loop μ-loop
 read-entries-requires c κs = record { going = c .before .before .before .if1 .taken; bounds = c .before .before .before .before .before .loop .inv .0 }
 
 same-length : tie.Need-same-length Inv-loop μ-loop
-same-length c = c .before .before .before .before .before .before .before .before .before .before .before .before .before .before .loop .inv .2 ∙ c .before .before .before .before .before .before .before .before .before .before .before .before .before .before .before .before .before .put-set .kept .1 .1 .1 .0
+same-length c = turn (refused-at c) .loop .inv .2 ∙ opened (refused-at c) .put-set .kept .1 .1 .1 .0
 
 same-length-2 : tie.Need-same-length-2 Inv-loop μ-loop
-same-length-2 c = c .before .before .before .before .before .before .before .before .read-entries .kept .1 .1 .1 .1 .0 ∙ c .before .before .before .before .before .before .before .before .before .before .before .before .before .before .loop .inv .3
+same-length-2 c = refused-at c .read-entries .kept .1 .1 .1 .1 .0 ∙ turn (refused-at c) .loop .inv .3
 
 same-length-3 : tie.Need-same-length-3 Inv-loop μ-loop
-same-length-3 c = c .before .before .before .before .before .before .before .before .read-entries .kept .1 .1 .1 .1 .1 .0 ∙ c .before .before .before .before .before .before .before .before .before .before .before .before .before .before .loop .inv .4
+same-length-3 c = refused-at c .read-entries .kept .1 .1 .1 .1 .1 .0 ∙ turn (refused-at c) .loop .inv .4
 
 same-length-4 : tie.Need-same-length-4 Inv-loop μ-loop
-same-length-4 c = c .before .before .before .before .before .before .before .before .read-entries .kept .1 .1 .1 .1 .1 .1 .0 ∙ c .before .before .before .before .before .before .before .before .before .before .before .before .before .before .loop .inv .5
+same-length-4 c = refused-at c .read-entries .kept .1 .1 .1 .1 .1 .1 .0 ∙ turn (refused-at c) .loop .inv .5
 
 returns : tie.Need-returns Inv-loop μ-loop
 unfolding setOf
 returns c =
-    let l = c .before .before .before .before .before .before .before .before .before .before .before .before .before .before .loop in
-    let own = c .before .before .before .before .before .before .before .before .read-entries in
+    let l = turn (refused-at c) .loop in
+    let own = refused-at c .read-entries in
     record {
       bounds = own .ensures .0 .bounds;
-      further = omega (arith, c .before .before .before .before .before .before .before .before .before .before .before .before .before .before .before .before .before .put-set .ensures, l .inv .1, own .ensures .0 .further);
+      further = omega (arith, opened (refused-at c) .put-set .ensures, l .inv .1, own .ensures .0 .further);
       goes = λ before outcome a.
           stays _ _ _ (c .if2 .taken)
-          (own .ensures .0 .goes (inBlock (c .before .before .before .before .before .before .before .before .before .before .before .before .before .before .before .before .before .put-set .result .sets)) _ refl before outcome
-          (l .inv .6 before outcome (over-block _ _ _ a (c .before .before .before .before .before .before .before .before .before .before .before .before .before .before .before .before .before .before .before .before .before .before .before .before .pre .1 .is) (c .before .before .before .before .before .before .before .before .before .before .before .before .before .before .before .before .before .put-set .ensures)) .goes (c .before .before .before .before .before .before .before .before .before .before .before .before .if1 .taken)));
+          (own .ensures .0 .goes (inBlock (opened (refused-at c) .put-set .result .sets)) _ refl before outcome
+          (l .inv .6 before outcome (over-block _ _ _ a (start (refused-at c) .pre .1 .is) (opened (refused-at c) .put-set .ensures)) .goes (test (refused-at c) .if1 .taken)));
     }
 
 sort-at-requires : tie.Need-sort-at-requires Inv-loop μ-loop
 sort-at-requires c κs = c .before .before .before .before .before .before .before .before .read-entries .ensures .0 .bounds .rows
 
 same-length-5 : tie.Need-same-length-5 Inv-loop μ-loop
-same-length-5 c = c .before .before .before .before .before .before .before .before .before .before .before .before .before .before .before .before .loop .inv .2 ∙ c .before .before .before .before .before .before .before .before .before .before .before .before .before .before .before .before .before .before .before .put-set .kept .1 .1 .1 .0
+same-length-5 c = turn (closed-at c) .loop .inv .2 ∙ opened (closed-at c) .put-set .kept .1 .1 .1 .0
 
 same-length-6 : tie.Need-same-length-6 Inv-loop μ-loop
-same-length-6 c = c .before .before .before .before .before .before .before .before .before .before .read-entries .kept .1 .1 .1 .1 .0 ∙ c .before .before .before .before .before .before .before .before .before .before .before .before .before .before .before .before .loop .inv .3
+same-length-6 c = closed-at c .read-entries .kept .1 .1 .1 .1 .0 ∙ turn (closed-at c) .loop .inv .3
 
 same-length-7 : tie.Need-same-length-7 Inv-loop μ-loop
-same-length-7 c = c .before .before .before .before .before .before .before .before .before .before .read-entries .kept .1 .1 .1 .1 .1 .0 ∙ c .before .before .before .before .before .before .before .before .before .before .before .before .before .before .before .before .loop .inv .4
+same-length-7 c = closed-at c .read-entries .kept .1 .1 .1 .1 .1 .0 ∙ turn (closed-at c) .loop .inv .4
 
 same-length-8 : tie.Need-same-length-8 Inv-loop μ-loop
-same-length-8 c = c .before .before .before .before .before .before .before .before .before .before .read-entries .kept .1 .1 .1 .1 .1 .1 .0 ∙ c .before .before .before .before .before .before .before .before .before .before .before .before .before .before .before .before .loop .inv .5
+same-length-8 c = closed-at c .read-entries .kept .1 .1 .1 .1 .1 .1 .0 ∙ turn (closed-at c) .loop .inv .5
 
 returns-2 : tie.Need-returns-2 Inv-loop μ-loop
 unfolding setOf
 returns-2 c =
-    let l = c .before .before .before .before .before .before .before .before .before .before .before .before .before .before .before .before .loop in
-    let own = c .before .before .before .before .before .before .before .before .before .before .read-entries in
+    let l = turn (closed-at c) .loop in
+    let own = closed-at c .read-entries in
     let e = c .before .sort-at .ensures .is in
     let none = own .ensures .1 (c .before .before .if2 .left) in
     record {
       bounds = own .ensures .0 .bounds;
-      further = omega (arith, c .before .before .before .before .before .before .before .before .before .before .before .before .before .before .before .before .before .before .before .put-set .ensures, l .inv .1, own .ensures .0 .further);
+      further = omega (arith, opened (closed-at c) .put-set .ensures, l .inv .1, own .ensures .0 .further);
       goes = λ before outcome a.
           onto _ _ _ (λ k. closes _ _ _ k (λ h. c .if3 .taken (e ∙ h)) (none .loop) (none .name))
-          (own .ensures .0 .goes (inBlock (c .before .before .before .before .before .before .before .before .before .before .before .before .before .before .before .before .before .before .before .put-set .result .sets)) _ refl before outcome
-          (l .inv .6 before outcome (over-block _ _ _ a (c .before .before .before .before .before .before .before .before .before .before .before .before .before .before .before .before .before .before .before .before .before .before .before .before .before .before .pre .1 .is) (c .before .before .before .before .before .before .before .before .before .before .before .before .before .before .before .before .before .before .before .put-set .ensures)) .goes (c .before .before .before .before .before .before .before .before .before .before .before .before .before .before .if1 .taken)));
+          (own .ensures .0 .goes (inBlock (opened (closed-at c) .put-set .result .sets)) _ refl before outcome
+          (l .inv .6 before outcome (over-block _ _ _ a (start (closed-at c) .pre .1 .is) (opened (closed-at c) .put-set .ensures)) .goes (test (closed-at c) .if1 .taken)));
     }
 
 read-frame-requires : tie.Need-read-frame-requires Inv-loop μ-loop
@@ -103,13 +126,13 @@ read-frame-requires c κs = (
 )
 
 loop-less : tie.Need-loop-less Inv-loop μ-loop
-loop-less c = omega (arith, c .before .before .before .before .before .before .before .before .read-frame .ensures .bounds, c .before .before .before .before .before .before .before .before .read-frame .ensures .further, c .before .before .before .before .before .before .before .before .before .before .before .before .before .before .before .before .before .before .before .before .before .before .before .read-entries .ensures .0 .further)
+loop-less c = omega (arith, c .before .before .before .before .before .before .before .before .read-frame .ensures .bounds, c .before .before .before .before .before .before .before .before .read-frame .ensures .further, came-back c .read-entries .ensures .0 .further)
 
 loop-again : tie.Need-loop-again Inv-loop μ-loop
 unfolding setOf
 loop-again c =
-    let l = c .before .before .before .before .before .before .before .before .before .before .before .before .before .before .before .before .before .before .before .before .before .before .before .before .before .before .before .before .before .loop in
-    let own = c .before .before .before .before .before .before .before .before .before .before .before .before .before .before .before .before .before .before .before .before .before .before .before .read-entries in
+    let l = turn (came-back c) .loop in
+    let own = came-back c .read-entries in
     let frame = c .before .before .before .before .before .before .before .before .read-frame in (
       frame .ensures .bounds,
       omega (arith, l .inv .1, own .ensures .0 .further, frame .ensures .further),
@@ -119,7 +142,7 @@ loop-again c =
       frame .kept .1 .1 .1 .1 .1 .1 .1 .0 ∙ own .kept .1 .1 .1 .1 .1 .1 .0 ∙ l .inv .5,
       λ before outcome a.
           frame .ensures .goes before outcome
-          (own .ensures .0 .goes (inBlock (c .before .before .before .before .before .before .before .before .before .before .before .before .before .before .before .before .before .before .before .before .before .before .before .before .before .before .before .before .before .before .before .before .put-set .result .sets)) _ refl before outcome (l .inv .6 before outcome a .goes (c .before .before .before .before .before .before .before .before .before .before .before .before .before .before .before .before .before .before .before .before .before .before .before .before .before .before .before .if1 .taken)) .goes
+          (own .ensures .0 .goes (inBlock (opened (came-back c) .put-set .result .sets)) _ refl before outcome (l .inv .6 before outcome a .goes (test (came-back c) .if1 .taken)) .goes
           (c .before .before .before .before .before .before .before .before .before .before .before .before .before .before .before .if2 .left)),
     )
 

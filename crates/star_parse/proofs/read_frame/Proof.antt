@@ -9,6 +9,23 @@ use Rattle.star_parse.proofs.Going.{comes, stays, refused, over-frame, 
 use Rattle.star_parse.proofs.read_frame.Statement.{statement}
 use Rattle.star_parse.proofs.read_frame.Tie as tie
 
+-- from where the entries are read: the frame's row and the beginning
+abbrev opened : tie.After-read-entries → tie.After-put-set
+opened c = c .before .before .before .before .before .before
+
+abbrev start : tie.After-read-entries → tie.Start
+start c = c .before .before .before .before .before .before .before .before .before .before .before .before .before
+
+-- where the entries were read, before each answer
+abbrev refused-at : tie.Then1 → tie.After-read-entries
+refused-at c = c .before .before .before .before .before .before .before .before
+
+abbrev closed-at : tie.After-passed → tie.After-read-entries
+closed-at c = c .before .before .before .before .before .before .before .before .before .before .before
+
+abbrev misplaced-at : tie.After-misplaced → tie.After-read-entries
+misplaced-at c = c .before .before .before .before .before .before .before .before .before .before .before
+
 put-set-requires : tie.Need-put-set-requires
 put-set-requires c κs = search needs
 
@@ -16,23 +33,23 @@ read-entries-requires : tie.Need-read-entries-requires
 read-entries-requires c κs = search needs
 
 same-length : tie.Need-same-length
-same-length c = search needs
+same-length c = opened (refused-at c) .put-set .kept .1 .1 .1 .0
 
 same-length-2 : tie.Need-same-length-2
-same-length-2 c = search needs
+same-length-2 c = refused-at c .read-entries .kept .1 .1 .1 .1 .0
 
 same-length-3 : tie.Need-same-length-3
-same-length-3 c = search needs
+same-length-3 c = refused-at c .read-entries .kept .1 .1 .1 .1 .1 .0
 
 same-length-4 : tie.Need-same-length-4
-same-length-4 c = search needs
+same-length-4 c = refused-at c .read-entries .kept .1 .1 .1 .1 .1 .1 .0
 
 returns : tie.Need-returns
 unfolding setOf
 returns c =
-    let s = c .before .before .before .before .before .before .before .before .before .before .before .before .before .before .before .before .before .before .before .before .before in
-    let set = c .before .before .before .before .before .before .before .before .before .before .before .before .before .before .put-set in
-    let own = c .before .before .before .before .before .before .before .before .read-entries in
+    let s = start (refused-at c) in
+    let set = opened (refused-at c) .put-set in
+    let own = refused-at c .read-entries in
     record {
       bounds = own .ensures .0 .bounds;
       further = omega (arith, set .ensures, own .ensures .0 .further);
@@ -51,23 +68,23 @@ misplaced-requires : tie.Need-misplaced-requires
 misplaced-requires c κs = search needs
 
 same-length-5 : tie.Need-same-length-5
-same-length-5 c = search needs
+same-length-5 c = opened (closed-at c) .put-set .kept .1 .1 .1 .0
 
 same-length-6 : tie.Need-same-length-6
-same-length-6 c = search needs
+same-length-6 c = closed-at c .read-entries .kept .1 .1 .1 .1 .0
 
 same-length-7 : tie.Need-same-length-7
-same-length-7 c = search needs
+same-length-7 c = closed-at c .read-entries .kept .1 .1 .1 .1 .1 .0
 
 same-length-8 : tie.Need-same-length-8
-same-length-8 c = search needs
+same-length-8 c = closed-at c .read-entries .kept .1 .1 .1 .1 .1 .1 .0
 
 returns-2 : tie.Need-returns-2
 unfolding setOf
 returns-2 c =
-    let s = c .before .before .before .before .before .before .before .before .before .before .before .before .before .before .before .before .before .before .before .before .before .before .before .before in
-    let set = c .before .before .before .before .before .before .before .before .before .before .before .before .before .before .before .before .before .put-set in
-    let own = c .before .before .before .before .before .before .before .before .before .before .before .read-entries in
+    let s = start (closed-at c) in
+    let set = opened (closed-at c) .put-set in
+    let own = closed-at c .read-entries in
     let v = c .passed .ensures in
     let e = ahead-is _ _ _ _ _ (c .before .before .sort-at .ensures) (c .before .if2 .taken) (omega arith) in
     record {
@@ -81,23 +98,23 @@ returns-2 c =
     }
 
 same-length-9 : tie.Need-same-length-9
-same-length-9 c = search needs
+same-length-9 c = opened (misplaced-at c) .put-set .kept .1 .1 .1 .0
 
 same-length-10 : tie.Need-same-length-10
-same-length-10 c = search needs
+same-length-10 c = misplaced-at c .read-entries .kept .1 .1 .1 .1 .0
 
 same-length-11 : tie.Need-same-length-11
-same-length-11 c = search needs
+same-length-11 c = misplaced-at c .read-entries .kept .1 .1 .1 .1 .1 .0
 
 same-length-12 : tie.Need-same-length-12
-same-length-12 c = search needs
+same-length-12 c = misplaced-at c .read-entries .kept .1 .1 .1 .1 .1 .1 .0
 
 returns-3 : tie.Need-returns-3
 unfolding setOf
 returns-3 c =
-    let s = c .before .before .before .before .before .before .before .before .before .before .before .before .before .before .before .before .before .before .before .before .before .before .before .before in
-    let set = c .before .before .before .before .before .before .before .before .before .before .before .before .before .before .before .before .before .put-set in
-    let own = c .before .before .before .before .before .before .before .before .before .before .before .read-entries in
+    let s = start (misplaced-at c) in
+    let set = opened (misplaced-at c) .put-set in
+    let own = misplaced-at c .read-entries in
     let e = c .before .before .sort-at .ensures .is in
     let none = own .ensures .1 (c .before .before .before .if1 .left) in
     record {

@@ -4,6 +4,7 @@ use Prim.Native.Nat.{ℕ}
 use borrow.Author.Needs.{needs}
 use lib.ListN.{length}
 use mathlib.Core.List.{List}
+use Rattle.star_lex.specs.Rules.{today}
 use Rattle.star_lex.specs.Tokens.{Placed}
 use Rattle.star_lex.specs.Split.{placed, tokensOf}
 use Rattle.star_lex.specs.Split as Split
@@ -21,10 +22,10 @@ use Rattle.star_read.proofs.read.Tie as tie
 leaves-at : {o p : Outcome} → p ≡ o → {m n : ℕ} → m ≡ n → (w : ℕ → Sizes) → {t : Tables} → Leaves o (w m) t → Leaves p (w n) t
 leaves-at {o} e {n = n} k w {t} l = subst (λ x. Leaves x (w n) t) (sym e) (subst (λ x. Leaves o (w x) t) k l)
 
-leaves-after : (file : List ℕ) (w : ℕ → Sizes) {m n : ℕ} → m ≡ n → {p : Outcome} → p ≡ fitting (w n) (grammarOf (length file) (placed (tokensOf file)))
-    → {t : Tables} → Leaves (fitting (w m) (grammarOf (length file) (placed (tokensOf file)))) (w m) t → Leaves p (w n) t
+leaves-after : (file : List ℕ) (w : ℕ → Sizes) {m n : ℕ} → m ≡ n → {p : Outcome} → p ≡ fitting (w n) (grammarOf today (length file) (placed (tokensOf file)))
+    → {t : Tables} → Leaves (fitting (w m) (grammarOf today (length file) (placed (tokensOf file)))) (w m) t → Leaves p (w n) t
 leaves-after file w {n = n} k e {t} l =
-    subst (λ x. Leaves x (w n) t) (sym e) (subst (λ x. Leaves (fitting (w x) (grammarOf (length file) (placed (tokensOf file)))) (w x) t) k l)
+    subst (λ x. Leaves x (w n) t) (sym e) (subst (λ x. Leaves (fitting (w x) (grammarOf today (length file) (placed (tokensOf file)))) (w x) t) k l)
 
 abbrev entry : tie.After-read-tokens → tie.Start
 entry c = c .before .before .before .before .before .before .before .before
@@ -106,7 +107,7 @@ returns-2 c =
     let file = entry split .args .file .now in
     let o = read-after file (whole split) (tokens else .0) (tokens else .1) in
     let l = split .read-tokens .kept .1 .0 in (
-      read .read-tables .ensures .0 ∙ ap (λ n. answerOf (fitting (sizes split n) (grammarOf (length file) (placed (tokensOf file))))) l ∙ sym (ap answerOf o),
+      read .read-tables .ensures .0 ∙ ap (λ n. answerOf (fitting (sizes split n) (grammarOf today (length file) (placed (tokensOf file))))) l ∙ sym (ap answerOf o),
       leaves-after file (sizes split) l o (read .read-tables .ensures .1),
     )
 

@@ -115,7 +115,7 @@ returns-2 c =
     let s = outcome-settled file tokens (at .args .count) (at .pre .0) (old read) (new read) (same read) (rows .result) (rows .ensures .0) (judged .judge .result) (judged .judge .ensures) (cleared .before .before .before .before .before .if1 .left) in
     let a = rows-accepted file tokens (at .args .count) (at .pre .0) (old read) (new read) (same read) (rows .result) (rows .ensures .0) (judged .judge .result) (judged .judge .ensures) (s .rows) (s .is-good) in
     let k = cleared-held (at .args .count) (s .rows) (old read) (new read) _ (rows .result) a (cleared .clear-behind .ensures) (s .room .sets) (s .room .names) (s .room .packets) (s .room .values) in
-    let o : fitting (sizesOf (length tokens) (old read)) (grammarOf (length file) (placed (tokensOf file))) ≡ accepted (placed (tokensOf file)) (s .rows) = s .outcome in (
+    let o : fitting (sizesOf (length tokens) (old read)) (grammarOf today (length file) (placed (tokensOf file))) ≡ accepted (placed (tokensOf file)) (s .rows) = s .outcome in (
       accepted-answer _ (placed (tokensOf file)) (s .rows) (at .args .count) (old read) (new read) (rows .result) o (at .pre .0 .count-is) a,
       accepted-leaves _ (placed (tokensOf file)) (s .rows) tokens (old read) _ o (at .pre .0 .rows) k,
     )

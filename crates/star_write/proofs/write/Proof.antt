@@ -57,13 +57,13 @@ writes : (c : tie.Else1)
 writes c = success _ _ _ _ (answered (c .before .before)) (c .if1 .left)
 
 read-requires : tie.Need-read-requires
-read-requires c κs = search needs
+read-requires c κs = tt
 
 answer-requires : tie.Need-answer-requires
 answer-requires c κs = read-holds _ (words (entry (reading c))) _ (reading c .read .ensures .0) _ (reading c .read .ensures .1)
 
 clear-all-requires : tie.Need-clear-all-requires
-clear-all-requires c κs = search needs
+clear-all-requires c κs = tt
 
 same-length : tie.Need-same-length
 same-length c = cleared c .clear-all .kept .0 ∙ read (refusing c .before .before) .read .kept .1 .0
@@ -81,7 +81,7 @@ same-length-5 : tie.Need-same-length-5
 same-length-5 c = cleared c .clear-all .kept .1 .1 .1 .1 .0 ∙ read (refusing c .before .before) .read .kept .1 .1 .1 .1 .1 .0
 
 same-length-6 : tie.Need-same-length-6
-same-length-6 c = search needs
+same-length-6 c = cleared c .clear-all .kept .1 .1 .1 .1 .1 .0
 
 returns : tie.Need-returns
 unfolding tablesOf
@@ -128,7 +128,7 @@ same-length-11 : tie.Need-same-length-11
 same-length-11 c = read (writing (put c .before) .before .before) .read .kept .1 .1 .1 .1 .1 .0
 
 same-length-12 : tie.Need-same-length-12
-same-length-12 c = search needs
+same-length-12 c = put c .put-plain .kept .1 .1 .1 .1 .0
 
 returns-2 : tie.Need-returns-2
 returns-2 c =

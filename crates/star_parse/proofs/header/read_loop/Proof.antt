@@ -63,15 +63,28 @@ same-length-2 c = c .before .before .before .before .before .before .before .bef
 same-length-3 : tie.Need-same-length-3 Inv-loop μ-loop
 same-length-3 c = c .before .before .before .before .before .before .before .before .loop .inv .7
 
+-- from where a level's names were read: the level, the turn, the loop's heading and the beginning
+abbrev level : tie.After-struct-known2 Inv-loop μ-loop → tie.After-read-names Inv-loop μ-loop
+level c = c .before .before .before
+
+abbrev turn : tie.After-struct-known2 Inv-loop μ-loop → tie.At-loop Inv-loop μ-loop
+turn c = c .before .before .before .before .before
+
+abbrev headed : tie.After-struct-known2 Inv-loop μ-loop → tie.After-opened Inv-loop μ-loop
+headed c = c .before .before .before .before .before .before .before
+
+abbrev begin : tie.After-struct-known2 Inv-loop μ-loop → tie.Start Inv-loop μ-loop
+begin c = c .before .before .before .before .before .before .before .before .before .before .before .before
+
 -- the names of a level, from the loop's beginning on
-named : (c : tie.After-struct-known2 Inv-loop μ-loop) (w : Where) (sets : List ℕ) → setOf w ≡ c .before .before .before .before .before .before .before .before .before .before .before .before .args .set
-    → Passes (c .before .before .before .before .before .before .before .before .before .before .before .before .args .count) (c .before .before .before .before .before .before .before .before .before .before .before .before .args .tokens .now) (header w (c .before .before .before .before .before .before .before .opened .result .names + 1) [] 0 0) (c .before .before .before .before .before .before .before .opened .result)
-    (tables sets (c .before .before .before .before .before .before .before .before .before .before .before .before .args .names .now) (c .before .before .before .before .before .before .before .before .before .before .before .before .args .packets .now) (c .before .before .before .before .before .before .before .before .before .before .before .before .args .values .now))
-    (header w (c .before .before .before .before .before .before .before .opened .result .names + 1) (outers (c .before .before .before .before .before .loop .level) (c .before .before .before .before .before .loop .counts)) (c .before .before .before .read-names .result .names - c .before .before .before .before .before .loop .p .names) 0)
-    (c .before .before .before .read-names .result) (tables sets (c .before .before .before .read-names .last .1 .1 .1 .1 .1 .0) (c .before .before .before .before .before .loop .packets) (c .before .before .before .before .before .loop .values))
+named : (c : tie.After-struct-known2 Inv-loop μ-loop) (w : Where) (sets : List ℕ) → setOf w ≡ begin c .args .set
+    → Passes (begin c .args .count) (begin c .args .tokens .now) (header w (headed c .opened .result .names + 1) [] 0 0) (headed c .opened .result)
+    (tables sets (begin c .args .names .now) (begin c .args .packets .now) (begin c .args .values .now))
+    (header w (headed c .opened .result .names + 1) (outers (turn c .loop .level) (turn c .loop .counts)) (level c .read-names .result .names - turn c .loop .p .names) 0)
+    (level c .read-names .result) (tables sets (level c .read-names .last .1 .1 .1 .1 .1 .0) (turn c .loop .packets) (turn c .loop .values))
 named c w sets q before outcome a =
-    let l = c .before .before .before .before .before .loop in
-    c .before .before .before .read-names .ensures .goes w _ _ sets _ _ q (omega (arith, outers-length (l .counts) (l .level) 0 (l .inv .3) (l .inv .2))) before outcome
+    let l = turn c .loop in
+    level c .read-names .ensures .goes w _ _ sets _ _ q (omega (arith, outers-length (l .counts) (l .level) 0 (l .inv .3) (l .inv .2))) before outcome
     (l .inv .8 w sets q before outcome a)
 
 returns : tie.Need-returns Inv-loop μ-loop

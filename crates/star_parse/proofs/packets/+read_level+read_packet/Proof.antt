@@ -201,23 +201,36 @@ read-packet-same-length-5 t c = c .before .before .before .before .before .befor
 read-packet-same-length-6 : (t : ℕ) → read-packet-lts.Need-same-length-6 (packet-claims t) (read-packet-at t) read-packet.Post
 read-packet-same-length-6 t c = c .before .before .before .before .before .before .read-level .kept .1 .1 .1 .1 .1 .0 ∙ c .before .before .before .before .before .before .before .before .before .before .before .before .before .before .before .before .before .before .before .read-own .kept .1 .1 .1 .1 .1 .0
 
+-- from where the level inside was read: its packets, the step into it, the packet's own values and the beginning
+abbrev level : (t : ℕ) → read-packet-lts.After-struct-known5 (packet-claims t) (read-packet-at t) read-packet.Post → read-packet-lts.After-read-level (packet-claims t) (read-packet-at t) read-packet.Post
+level t c = c .before .before .before .before .before
+
+abbrev step : (t : ℕ) → read-packet-lts.After-struct-known5 (packet-claims t) (read-packet-at t) read-packet.Post → read-packet-lts.After-deeper (packet-claims t) (read-packet-at t) read-packet.Post
+step t c = c .before .before .before .before .before .before .before .before
+
+abbrev own : (t : ℕ) → read-packet-lts.After-struct-known5 (packet-claims t) (read-packet-at t) read-packet.Post → read-packet-lts.After-read-own (packet-claims t) (read-packet-at t) read-packet.Post
+own t c = c .before .before .before .before .before .before .before .before .before .before .before .before .before .before .before .before .before .before
+
+abbrev begin : (t : ℕ) → read-packet-lts.After-struct-known5 (packet-claims t) (read-packet-at t) read-packet.Post → read-packet-lts.Start (packet-claims t) (read-packet-at t) read-packet.Post
+begin t c = c .before .before .before .before .before .before .before .before .before .before .before .before .before .before .before .before .before .before .before .before .before .before .before .before .before
+
 -- the packets of the level inside
 inside : (t : ℕ) (c : read-packet-lts.After-struct-known5 (packet-claims t) (read-packet-at t) read-packet.Post) (w : Where) (outer : List Level)
-    (sets names : List ℕ) → Around (c .before .before .before .before .before .before .before .before .before .before .before .before .before .before .before .before .before .before .before .before .before .before .before .before .before .args .s) outer
-    → Leads (c .before .before .before .before .before .before .before .before .before .before .before .before .before .before .before .before .before .before .before .before .before .before .before .before .before .args .count) (c .before .before .before .before .before .before .before .before .before .before .before .before .before .before .before .before .before .before .before .before .before .before .before .before .before .args .tokens .now) (atLevel w outer (c .before .before .before .before .before .before .before .before .before .before .before .before .before .before .before .before .before .before .before .before .before .before .before .before .before .args .s)) (c .before .before .before .before .before .before .before .before .before .before .before .before .before .before .before .before .before .before .before .before .before .before .before .before .before .args .p)
-    (tables sets names (c .before .before .before .before .before .before .before .before .before .before .before .before .before .before .before .before .before .before .before .before .before .before .before .before .before .args .packets .now) (c .before .before .before .before .before .before .before .before .before .before .before .before .before .before .before .before .before .before .before .before .before .before .before .before .before .args .values .now))
-    (atLevel w (levelOf (c .before .before .before .before .before .before .before .before .before .before .before .before .before .before .before .before .before .before .before .before .before .before .before .before .before .args .s) (c .before .before .before .before .before .before .before .before .before .before .before .before .before .before .before .before .before .before .before .before .before .before .before .before .before .args .p .packets + 1) ∷ outer) (c .before .before .before .before .before .before .before .before .deeper .result)) (c .before .before .before .before .before .read-level .result)
-    (tables sets names (c .before .before .before .before .before .read-level .last .1 .1 .1 .1 .0) (c .before .before .before .before .before .read-level .last .1 .1 .1 .1 .1 .0))
+    (sets names : List ℕ) → Around (begin t c .args .s) outer
+    → Leads (begin t c .args .count) (begin t c .args .tokens .now) (atLevel w outer (begin t c .args .s)) (begin t c .args .p)
+    (tables sets names (begin t c .args .packets .now) (begin t c .args .values .now))
+    (atLevel w (levelOf (begin t c .args .s) (begin t c .args .p .packets + 1) ∷ outer) (step t c .deeper .result)) (level t c .read-level .result)
+    (tables sets names (level t c .read-level .last .1 .1 .1 .1 .0) (level t c .read-level .last .1 .1 .1 .1 .1 .0))
 inside t c w outer sets names around before outcome a =
-    let s = c .before .before .before .before .before .before .before .before .before .before .before .before .before .before .before .before .before .before .before .before .before .before .before .before .before in
+    let s = begin t c in
     let h = s .pre .1 .1 .1 .0 in
     let packet : ℕ = s .args .p .packets + 1 in
     let l : s .args .s .level + 1 < s .args .s .levels = omega (arith, h .some, c .before .before .before .before .before .before .before .before .before .if2 .left) in
-    let d = c .before .before .before .before .before .before .before .before .deeper in
-    c .before .before .before .before .before .read-level .ensures .0 .goes w (levelOf (s .args .s) packet ∷ outer) sets names
+    let d = step t c .deeper in
+    level t c .read-level .ensures .0 .goes w (levelOf (s .args .s) packet ∷ outer) sets names
     (around-deeper (s .args .s) h packet l (d .result) (d .ensures) outer around) before outcome
     (rw (filled-deeper (s .args .s) h packet l (d .result) (d .ensures) w outer) at
-    (c .before .before .before .before .before .before .before .before .before .before .before .before .before .before .before .before .before .before .read-own .ensures .goes w outer sets names around before outcome a .goes (c .before .before .before .before .before .before .before .before .before .before .before .before .if1 .left)))
+    (own t c .read-own .ensures .goes w outer sets names around before outcome a .goes (c .before .before .before .before .before .before .before .before .before .before .before .before .if1 .left)))
 
 read-packet-returns-3 : (t : ℕ) → read-packet-lts.Need-returns-3 (packet-claims t) (read-packet-at t) read-packet.Post
 read-packet-returns-3 t c =
