@@ -1,5 +1,6 @@
 // What reading left in the five tables, kept in one row of words: word t is the count of table t, word 5 + t is how many words of it are lent, and
 // its words stand from word 1,024 t on.
+use crate::print;
 use crate::table;
 use crate::table::FILLED;
 use star_find::Counts;
@@ -14,32 +15,16 @@ pub fn room() -> [u32; 6144]
     [1024; 6144]
 }
 
-// How many words the rows of a table have.
-fn size_of_rows(kept: &[u32], t: u32) -> usize {
-    let rows = table::word(kept, t as usize) as usize;
-    if t == 3 { rows * 4 } else { rows * 3 }
-}
-
 // The words of a table that are lent.
 pub fn lent(kept: &[u32], t: u32) -> &[u32] {
     table::first(
         table::behind(kept, t as usize * 1024),
-        table::word(kept, 5 + t as usize) as usize,
+        table::word(kept, 5 + t as usize),
     )
 }
 
-// The words of the rows of a table.
-pub fn rows(kept: &[u32], t: u32) -> &[u32] {
-    table::first(lent(kept, t), size_of_rows(kept, t))
-}
-
-// The five counts.
-pub fn counts(kept: &[u32]) -> &[u32] {
-    table::first(table::behind(kept, 1), 5)
-}
-
 // The five counts, as lookup takes them.
-pub fn given_counts(kept: &[u32]) -> Counts {
+pub fn counts(kept: &[u32]) -> Counts {
     Counts {
         tokens: table::word(kept, 1),
         sets: table::word(kept, 2),
@@ -49,16 +34,48 @@ pub fn given_counts(kept: &[u32]) -> Counts {
     }
 }
 
-// Whether every word that is lent after the last row of each table is 0.
-pub fn clear(kept: &[u32]) -> bool {
-    let mut t = 1;
+// Prints the rows of a table, and any word after them that is not 0.
+fn print_table(kept: &[u32], t: u32) {
+    let count = table::word(kept, t as usize) as usize;
+    if t == 3 {
+        print::rows(lent(kept, t), count * 4, 4);
+    } else {
+        print::rows(lent(kept, t), count * 3, 3);
+    }
+}
+
+// Prints the tables of an accepted file.
+fn print_tables(kept: &[u32]) {
+    print_table(kept, 1);
+    let mut t = 2;
     while t <= 5 {
-        if !table::clear(table::behind(lent(kept, t), size_of_rows(kept, t))) {
-            return false;
-        }
+        print::text(b" ; ");
+        print_table(kept, t);
         t += 1;
     }
-    true
+}
+
+// Prints any word that a refusal left in the tables.
+fn print_left(kept: &[u32]) {
+    print_table(kept, 1);
+    print_table(kept, 2);
+    print_table(kept, 3);
+    print_table(kept, 4);
+    print_table(kept, 5);
+}
+
+// Prints refusal and place, and of an accepted file the counts and the rows of the five tables; of a refused one any count or word that is not 0.
+pub fn print_answer(answer: Reading, kept: &[u32]) {
+    print::two(answer.refusal, answer.place);
+    if answer.refusal == 0 {
+        print::bar();
+        print::rows(table::first(table::behind(kept, 1), 5), 5, 5);
+        print::bar();
+        print_tables(kept);
+    } else {
+        print::rows(table::first(table::behind(kept, 1), 5), 0, 5);
+        print_left(kept);
+    }
 }
 
 // The words of a table that are lent, to be written.

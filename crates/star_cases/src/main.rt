@@ -1,94 +1,129 @@
-// Runs the files of the data file `cases`, a line each, and three that no line can hold: the split, reading, and the plain form of an accepted file,
-// read back and written again; and the calls of the data file `calls`. Prints what came out of each.
+// Runs the lines of standard input, and prints each with what came out of it. The first letter of a line says what it is:
+//     case FILE               a file through the split, reading, and the plain form of an accepted file, read back and written again; the line is
+//                             printed without its first word
+//     1048576 bytes           the same for a file of so many bytes that no line can hold
+//     read FILE               reads a file into the tables that are lent
+//     write N                 writes the plain form of the last file into N bytes
+//     set T I W               makes word I of table T, counted from 0, be W; words 1 to 5 of table 0 are the five counts, and words 6 to 10 how
+//                             many words of each table are lent
+//     look SET NAME K BYTES   looks for the block, the frame of a set and the name of a set with these bytes, and for the k-th value of a name row
+// Any other line is a remark.
 mod calls;
 mod kept;
 mod notation;
 mod plain;
 mod print;
-mod reading;
-mod rooms;
 mod table;
-mod tokens;
 mod words;
+
+use table::FILLED;
+
+// Prints the rows of a split.
+fn print_rows(rows: &[u32], count: u32, refusal: u32) {
+    if refusal == 0 {
+        print::bar();
+    }
+    print::rows(rows, count as usize * 3, 3);
+}
+
+// Splits a file and prints refusal, place and count, and the rows where it is accepted.
+fn split(file: &[u8]) {
+    let mut rows = [FILLED; 1024];
+    let answer = star_lex::read_tokens(file, &mut rows);
+    print::three(answer.refusal, answer.place, answer.count);
+    print_rows(&rows, answer.count, answer.refusal);
+}
+
+// Writes the plain form of a file whose reading is kept, if it was accepted.
+fn write(file: &[u8], kept: &[u32], refusal: u32) {
+    if refusal == 0 {
+        print::text(b"\n  plain ");
+        plain::run(file, kept);
+    }
+}
+
+// Reads a file, and writes the plain form of an accepted one.
+fn read_and_write(file: &[u8]) {
+    let mut kept = kept::room();
+    let answer = kept::read(file, &mut kept);
+    kept::print_answer(answer, &kept);
+    write(file, &kept, answer.refusal);
+}
 
 // Runs a file through the split, reading and writing.
 fn run_file(file: &[u8]) {
-    let mut kept = kept::room();
-    let answer = kept::read(file, &mut kept);
-    tokens::run(file);
+    print::bar();
+    split(file);
     print::text(b"\n  read ");
-    reading::print_answer(answer, &kept);
-    if answer.refusal == 0 {
-        print::text(b"\n  plain ");
-        plain::run(file, &kept);
+    read_and_write(file);
+}
+
+// Runs the first bytes of a long file, so many.
+fn run_first(file: &mut [u8; 1048577], size: u32) {
+    notation::unescape(b"data_a _x ", file);
+    run_file(words::first(file, size));
+}
+
+// Runs a long file of so many bytes.
+fn run_long(size: u32) {
+    let mut file = [b'v'; 1048577];
+    run_first(&mut file, size);
+}
+
+// Does what a line says with what it is given, over the last file.
+fn run_on(line: &[u8], given: &[u8], file: &[u8], kept: &mut [u32]) {
+    match words::byte(line, 0) {
+        b'c' => run_file(file),
+        b'1' => run_long(words::number(line)),
+        b'r' => calls::read(file, kept),
+        b'w' => calls::write(file, words::number(given)),
+        b's' => calls::set(given, kept),
+        b'l' => calls::look(given, file, kept),
+        _ => {}
     }
+}
+
+// Prints a line, but of a case its file alone.
+fn show(line: &[u8]) {
+    if words::byte(line, 0) == b'c' {
+        print::text(words::rest(line));
+    } else {
+        print::text(line);
+    }
+}
+
+// Does what a line says over the file of the last line that has one, and prints the line and what came out.
+fn run_line(line: &[u8], last: &[u8], kept: &mut [u32]) {
+    let mut file = words::room();
+    let size = notation::unescape(words::rest(last), &mut file);
+    show(line);
+    run_on(line, words::rest(line), words::first(&file, size), kept);
     print::text(b"\n");
 }
 
-// Runs the file that a line of the data file stands for.
-fn run_case(line: &[u8]) {
-    let mut file = rooms::room();
-    let size = notation::unescape(line, &mut file);
-    print::text(line);
-    print::expect(size <= 8192);
-    run_file(rooms::first(&file, size));
-}
-
-// Runs a line of a data file, of calls or else of cases, and answers how many bytes the file of the calls has from here on.
-fn run_line(line: &[u8], is_call: bool, file: &mut [u8], size: usize, kept: &mut [u32]) -> usize {
-    if is_call {
-        calls::run_line(line, file, size, kept)
-    } else {
-        run_case(line);
-        size
+// The place of the last line that has a file: this one, or the one before.
+fn last_of(b: u8, at: usize, last: usize) -> usize {
+    match b {
+        b'c' | b'r' => at,
+        _ => last,
     }
 }
 
-// Runs each line of a data file.
-fn run_lines(lines: &[u8], are_calls: bool, file: &mut [u8], kept: &mut [u32]) {
-    let mut size = 0;
+// Runs each line.
+fn run_lines(lines: &[u8], kept: &mut [u32]) {
     let mut at = 0;
+    let mut last = 0;
     while at < lines.len() {
-        let end = at + words::before(&lines[at..], b'\n');
-        size = run_line(&lines[at..end], are_calls, file, size, kept);
-        at = end + 1;
+        last = last_of(lines[at], at, last);
+        run_line(words::line(lines, at), words::line(lines, last), kept);
+        at = bytes::scan::find(lines, at, lines.len(), b'\n') + 1;
     }
 }
 
-// Runs each line of the data file of that name, which is to be shorter than its room.
-fn run_data(path: &[u8], are_calls: bool) {
-    let fd = os::open_read(path);
-    if fd < 0 {
-        os::fail(path);
-        return;
-    }
-    let mut lines = io::large_buffer();
-    let n = io::read_full(fd, &mut lines);
-    libc::close(fd);
-    print::expect(n < 65536);
-    let mut file = rooms::room();
-    let mut kept = kept::room();
-    run_lines(&lines[..n], are_calls, &mut file, &mut kept);
-}
-
-// Runs the first bytes of a long file, as many as are counted.
-fn run_first(file: &[u8; 1048577], count: u32) {
-    print::number(count);
-    print::text(b" bytes: data_a _x vv..");
-    run_file(rooms::first(file, count as usize));
-}
-
-// Runs the longest file that is not too long, whose plain form is a byte too long, and files of a byte less and a byte more.
-fn run_longest(file: &mut [u8; 1048577]) {
-    notation::unescape(b"data_a _x ", file);
-    run_first(file, 1048575);
-    run_first(file, 1048576);
-    run_first(file, 1048577);
-}
-
+// Runs each line of standard input.
 fn main() {
-    run_data(b"cases", false);
-    run_data(b"calls", true);
-    let mut file = [b'v'; 1048577];
-    run_longest(&mut file);
+    let mut lines = io::large_buffer();
+    let n = io::read_full(libc::STDIN_FILENO, &mut lines);
+    let mut kept = kept::room();
+    run_lines(&lines[..n], &mut kept);
 }

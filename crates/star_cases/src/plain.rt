@@ -1,40 +1,10 @@
 // The plain form of a file: read back, and written again.
 use crate::kept;
 use crate::print;
-use crate::rooms;
 use crate::table;
 use crate::table::FILLED;
+use crate::words;
 use star_write::Written;
-
-// The content of a token, by its row.
-fn content<'a, 'b>(file: &'a [u8], row: &'b [u32]) -> &'a [u8] {
-    let end = table::least(table::word(row, 2) as usize, file.len());
-    let start = table::least(table::word(row, 1) as usize, end);
-    &file[start..end]
-}
-
-// Whether two tokens have equal kinds and contents, by their rows.
-fn same_token(file: &[u8], row: &[u32], form: &[u8], back: &[u32]) -> bool {
-    if table::word(row, 0) != table::word(back, 0) {
-        return false;
-    }
-    star_unique::same(content(file, row), content(form, back))
-}
-
-// Whether two files have tokens of equal kinds and contents, one by one.
-fn same_tokens(file: &[u8], rows: &[u32], form: &[u8], back: &[u32]) -> bool {
-    if rows.len() != back.len() {
-        return false;
-    }
-    let mut at = 0;
-    while at < rows.len() {
-        if !same_token(file, table::behind(rows, at), form, table::behind(back, at)) {
-            return false;
-        }
-        at += 3;
-    }
-    true
-}
 
 // Says whether something is the same.
 fn say(same: bool) {
@@ -47,18 +17,32 @@ fn say(same: bool) {
 
 // Prints refusal, place and length, and the plain form.
 pub fn print_answer(written: Written, out: &[u8]) {
-    let size = written.length as usize;
-    print::rows(&[written.refusal, written.place, written.length], 3);
+    print::three(written.refusal, written.place, written.length);
     print::bar();
-    print::escaped(rooms::first(out, size));
-    print::expect(rooms::clear_from(out, size));
+    print::escaped(out, written.length as usize);
 }
 
-// Compares the reading of a plain form, in `back`, with that of its file, in `kept`: tables 2 to 5 word for word, then kinds and contents of the
-// tokens.
-fn compare(file: &[u8], kept: &[u32], form: &[u8], back: &[u32]) {
-    say(table::same(table::behind(kept, 2048), table::behind(back, 2048)));
-    say(same_tokens(file, kept::rows(kept, 1), form, kept::rows(back, 1)));
+// Whether the n-th tokens of two files have equal kinds and contents, n from 0.
+fn same_token(file: &[u8], rows: &[u32], form: &[u8], back: &[u32], n: u32) -> bool {
+    if table::word(rows, n as usize * 3) != table::word(back, n as usize * 3) {
+        return false;
+    }
+    star_text::same(
+        star_lex::content(file, rows, n as usize),
+        star_lex::content(form, back, n as usize),
+    )
+}
+
+// Whether two files have tokens of equal kinds and contents, one by one, in tables of 1,024 words.
+fn same_tokens(file: &[u8], rows: &[u32], form: &[u8], back: &[u32]) -> bool {
+    let mut n = 0;
+    while n < 341 {
+        if !same_token(file, rows, form, back, n) {
+            return false;
+        }
+        n += 1;
+    }
+    true
 }
 
 // Writes the plain form of a file, with tables that have room.
@@ -79,23 +63,45 @@ pub fn write(file: &[u8], out: &mut [u8]) -> Written {
     )
 }
 
-// Reads a plain form and compares with its file; then writes it again and compares the bytes.
-fn repeat(file: &[u8], kept: &[u32], form: &[u8]) {
+// Compares the reading of a plain form, in `back`, with that of its file, in `kept`: tables 2 to 5 word for word, then kinds and contents of the
+// tokens.
+fn compare(file: &[u8], kept: &[u32], form: &[u8], back: &[u32]) {
+    say(table::same(table::behind(kept, 2048), table::behind(back, 2048)));
+    say(same_tokens(file, kept::lent(kept, 1), form, kept::lent(back, 1)));
+}
+
+// Reads a plain form and compares with its file, whose reading is kept.
+fn read_back(file: &[u8], kept: &[u32], form: &[u8]) {
     let mut back = kept::room();
-    let mut out = rooms::room();
     kept::read(form, &mut back);
     compare(file, kept, form, &back);
+}
+
+// Writes a plain form again and compares the bytes.
+fn write_again(form: &[u8]) {
+    let mut out = words::room();
     let written = write(form, &mut out);
-    say(star_unique::same(form, rooms::first(&out, written.length as usize)));
+    say(star_text::same(form, words::first(&out, written.length)));
+}
+
+// Reads a plain form and writes it again, if it was written.
+fn repeat(file: &[u8], kept: &[u32], form: &[u8], refusal: u32) {
+    if refusal == 0 {
+        print::text(b" | tables, tokens, bytes:");
+        read_back(file, kept, form);
+        write_again(form);
+    }
 }
 
 // Writes the plain form of a file whose reading is kept, prints it, reads it and writes it again.
 pub fn run(file: &[u8], kept: &[u32]) {
-    let mut out = rooms::room();
+    let mut out = words::room();
     let written = write(file, &mut out);
     print_answer(written, &out);
-    if written.refusal == 0 {
-        print::text(b" | tables, tokens, bytes:");
-        repeat(file, kept, rooms::first(&out, written.length as usize));
-    }
+    repeat(
+        file,
+        kept,
+        words::first(&out, written.length),
+        written.refusal,
+    );
 }

@@ -12,31 +12,50 @@ pub fn bar() {
 }
 
 // Writes a number.
-pub fn number(n: u32) {
+fn number(n: u32) {
     io::print_decimal(STDOUT_FILENO, n as u64);
 }
 
-// Writes what stands before the word at a place of a table whose rows have so many words.
-fn separator(at: usize, width: usize) {
-    if at == 0 {
-        return;
-    }
-    if width == 0 {
-        return;
-    }
-    if at % width == 0 {
-        text(b",");
-    } else {
-        text(b" ");
-    }
+// Writes two numbers.
+pub fn two(a: u32, b: u32) {
+    number(a);
+    text(b" ");
+    number(b);
 }
 
-// Writes rows of so many words, parted by commas.
-pub fn rows(words: &[u32], width: usize) {
+// Writes three numbers.
+pub fn three(a: u32, b: u32, c: u32) {
+    two(a, b);
+    text(b" ");
+    number(c);
+}
+
+// What stands before the word at a place of a table whose rows have so many words.
+fn separator(at: usize, width: u32) -> u8 {
+    if width == 0 {
+        return b'?';
+    }
+    if at % width as usize == 0 { b',' } else { b' ' }
+}
+
+// Writes the word at a place of a table, if it is counted or not 0.
+fn cell(at: usize, word: u32, width: u32, counted: bool) {
+    if !counted {
+        if word == 0 {
+            return;
+        }
+    }
+    if at != 0 {
+        text(&[separator(at, width)]);
+    }
+    number(word);
+}
+
+// Writes rows of so many words, parted by commas: the first words, as many as `size`, and any other that is not 0.
+pub fn rows(words: &[u32], size: usize, width: u32) {
     let mut at = 0;
     while at < words.len() {
-        separator(at, width);
-        number(words[at]);
+        cell(at, words[at], width, at < size);
         at += 1;
     }
 }
@@ -54,7 +73,7 @@ fn letter(b: u8) -> u8 {
     }
 }
 
-// Writes a byte that a file may have in the notation of the data file.
+// Writes a byte that a file may have in the notation of the input.
 fn symbol(b: u8) {
     if letter(b) == 0 {
         text(&[b]);
@@ -63,18 +82,20 @@ fn symbol(b: u8) {
     }
 }
 
-// Writes bytes in the notation of the data file.
-pub fn escaped(bytes: &[u8]) {
-    let mut at = 0;
-    while at < bytes.len() {
-        symbol(bytes[at]);
-        at += 1;
+// Writes a byte in the notation of the input, if it is counted or not 0.
+fn symbol_if(b: u8, counted: bool) {
+    if counted {
+        symbol(b);
+    } else if b != 0 {
+        symbol(b);
     }
 }
 
-// Says so if something is not as it should be.
-pub fn expect(right: bool) {
-    if !right {
-        text(b" UNEXPECTED");
+// Writes bytes in the notation of the input: the first, as many as `size`, and any other that is not 0.
+pub fn escaped(bytes: &[u8], size: usize) {
+    let mut at = 0;
+    while at < bytes.len() {
+        symbol_if(bytes[at], at < size);
+        at += 1;
     }
 }

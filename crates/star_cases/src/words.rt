@@ -1,25 +1,51 @@
-// The words of a line, parted by blanks.
+// The bytes of a line, and its words, parted by blanks.
 use crate::notation;
+use crate::table;
 ghost use Prim.Native.Nat.{_≤_};
+ghost use mathlib.Core.Path.{_≡_};
 ghost use lib.ListN.{length};
 
-// How many bytes stand before the first `b`: all of them where there is none.
-pub fn before(bytes: &[u8], b: u8) -> usize
-    ensures { λ r. ⌜ r ≤ length (now (bytes .entry)) ⌝ }
+// Room for a file of a line, or for its plain form, with bytes that are not 0.
+pub fn room() -> [u8; 8192]
+    ensures { λ r. ⌜ 8192 ≡ length r ⌝ }
 {
-    let mut at = 0;
-    while at < bytes.len() {
-        if bytes[at] == b {
-            return at;
-        }
-        at += 1;
-    }
-    at
+    [b'?'; 8192]
+}
+
+// The first bytes, so many or all.
+pub fn first(bytes: &[u8], size: u32) -> &[u8] {
+    let end = table::least(size as usize, bytes.len());
+    &bytes[0..end]
+}
+
+// The first bytes, so many or all, to be written.
+pub fn lend(bytes: &mut [u8], size: u32) -> &mut [u8] {
+    let end = table::least(size as usize, bytes.len());
+    &mut bytes[0..end]
+}
+
+// The byte at a place, or 0.
+pub fn byte(bytes: &[u8], at: usize) -> u8 {
+    if at < bytes.len() { bytes[at] } else { 0 }
+}
+
+// How many bytes stand before the first blank: all of them where there is none.
+fn before_blank(line: &[u8]) -> usize
+    ensures { λ r. ⌜ r ≤ length (now (line .entry)) ⌝ }
+{
+    bytes::scan::find(line, 0, line.len(), b' ')
+}
+
+// The line that begins at a place.
+pub fn line(lines: &[u8], from: usize) -> &[u8] {
+    let start = table::least(from, lines.len());
+    let end = bytes::scan::find(lines, start, lines.len(), b'\n');
+    &lines[start..end]
 }
 
 // What follows the first word of a line.
 pub fn rest(line: &[u8]) -> &[u8] {
-    let end = before(line, b' ');
+    let end = before_blank(line);
     if end < line.len() {
         return &line[end + 1..];
     }
@@ -38,12 +64,10 @@ fn with_digit(n: u32, b: u8) -> u32 {
 
 // The number that the first word of a line stands for.
 pub fn number(line: &[u8]) -> u32 {
+    let end = before_blank(line);
     let mut n: u32 = 0;
     let mut at = 0;
-    while at < line.len() {
-        if line[at] == b' ' {
-            return n;
-        }
+    while at < end {
         n = with_digit(n, line[at]);
         at += 1;
     }

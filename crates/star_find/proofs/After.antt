@@ -10,8 +10,10 @@ use native.Mathlib.Omega.{arith}
 use borrow.Author.Tests.{le-leb}
 use lib.ListN.{length, getD, length-map, List·getD-map}
 use Rattle.star_lex.specs.Rules.{today}
-use Rattle.star_rows.specs.Rows.{holding}
+use Rattle.star_rows.specs.Rows.{holding, wordOf}
 use Rattle.star_rows.proofs.Held.{holding-room, held-word}
+use Rattle.star_rows.proofs.Words.{word-row}
+use Rattle.star_text.specs.Names.{key}
 use Rattle.star_lex.specs.Tokens.{Placed, tokenRow}
 use Rattle.star_lex.specs.Split.{tokensOf, placed}
 use Rattle.star_lex.specs.Split as Split
@@ -21,14 +23,14 @@ use Rattle.star_grammar.specs.Tree.{File}
 use Rattle.star_grammar.specs.Reading.{Reading}
 use Rattle.star_grammar.proofs.Widths.{set-wide, name-wide, packet-wide, value-wide}
 use Rattle.star_grammar.proofs.RowsOf.{contentIn, nameIn, setIn, fileNames, fileSets, IsToken, Inside, TreeRows, tree-rows}
-use Rattle.star_unique.specs.Holds.{tokenAt}
-use Rattle.star_unique.proofs.Held.{Row, held-row}
+use Rattle.star_lex.specs.Holds.{tokenAt}
+use Rattle.star_lex.proofs.Held.{nowhere, Row, held-row, held-some}
 use Rattle.star_read.specs.Read.{accepted, Sizes, tokensOnly, readOf}
 use Rattle.star_read.proofs.Usable.{today-usable}
 use Rattle.star_read.proofs.Demand3.{rows-of-reading, one-reading}
 use Rattle.star_read.proofs.Accepted.{accepted-holds}
 use Rattle.star_read.specs.Answer.{answerOf, tablesOf}
-use Rattle.star_find.specs.Find.{Lent, fits, isRow, wordOf, partOf, contentAt, countsFit}
+use Rattle.star_find.specs.Find.{Lent, fits, isRow, contentAt, countsFit, spanAt}
 use Rattle.star_find.specs.Demands.{lentAfter, countsAfter, contentOf, kindOf, spanOf}
 use Rattle.star_find.specs.declared.Counts.{Counts}
 
@@ -62,10 +64,6 @@ module _ (file : List ℕ) (words : Sizes) (ps : List Placed) (rows : Rows) (e :
   unfolding answerOf counted
   counts-counted = rw e
 
--- no token, which stands where there is none
-abbrev nowhere : Placed
-nowhere = record { at = 0; token = record { kind = 0; content = [] } }
-
 -- the counts fit, and a number from 1 to a count is a row
 pub counts-fit : (file : List ℕ) (words : Sizes) (ps : List Placed) (rows : Rows) → countsFit (left file words ps rows) (counted ps rows) ≡ true
 unfolding countsFit fits left counted
@@ -96,9 +94,11 @@ kind-at ps row =
     sym (List·getD-map (λ t. t .kind) (tokensOnly ps) (row - 1) (record { kind = 0; content = [] }))
     ∙ ap (λ ks. getD ks (row - 1) 0) (map-map (λ t. t .kind) (λ p. p .token) ps)
 
-pub content-in : (ps : List Placed) (row : ℕ) → contentIn (tokensOnly ps) row ≡ contentOf ps row
-unfolding contentOf
-content-in ps row = ap (λ cs. getD cs (row - 1) []) (map-map (λ t. t .content) (λ p. p .token) ps)
+pub content-in : (ps : List Placed) (row : ℕ) → contentIn (tokensOnly ps) row ≡ key (contentOf ps row)
+unfolding contentOf key
+content-in ps row =
+    ap (λ cs. getD cs (row - 1) []) (map-map (λ t. key (t .content)) (λ p. p .token) ps ∙ sym (map-map key (λ p. p .token .content) ps))
+    ∙ List·getD-map key (map (λ p. p .token .content) ps) (row - 1) []
 
 module _ (file : List ℕ) (words : Sizes) (ps : List Placed) (rows : Rows) (e : readOf file words ≡ accepted ps rows) where
   tokens-split : tokensOf file ≡ Split.accepted ps
@@ -114,27 +114,26 @@ module _ (file : List ℕ) (words : Sizes) (ps : List Placed) (rows : Rows) (e :
 
     -- a token row has its token's content
     pub token-content : contentAt file (holding tokenRow ps (words .tokens)) (length ps) row ≡ some (contentOf ps row)
-    unfolding contentAt isRow partOf wordOf
+    unfolding contentAt isRow
     token-content =
         rw (
           le-leb 1 row (is .0),
           le-leb row (length ps) (is .1),
-          le-leb _ _ (token-row .ordered),
-          le-leb _ _ (token-row .within),
-          token-row .content,
+          held-some file (holding tokenRow ps (words .tokens)) (length ps) (accepted-holds file words ps rows e) (row - 1) (omega (arith, is .0, is .1)),
           token-at,
           content-at,
         )
 
     pub token-kind : wordOf (holding tokenRow ps (words .tokens)) 3 row 0 ≡ kindOf ps row
-    unfolding wordOf
-    token-kind = rw (add-zero, token-row .kind, token-at, kind-at)
+    token-kind = rw (word-row (holding tokenRow ps (words .tokens)) 3 row 0 (is .0), add-zero, token-row .kind, token-at, kind-at)
 
     -- and its span
-    pub token-span : record { start = wordOf (holding tokenRow ps (words .tokens)) 3 row 1; end = wordOf (holding tokenRow ps (words .tokens)) 3 row 2 } ≡ spanOf ps row
-    unfolding wordOf spanOf tokenRow kindOf contentOf
+    pub token-span : spanAt (holding tokenRow ps (words .tokens)) row ≡ spanOf ps row
+    unfolding spanAt spanOf tokenRow kindOf contentOf
     token-span =
         rw (
+          word-row (holding tokenRow ps (words .tokens)) 3 row 1 (is .0),
+          word-row (holding tokenRow ps (words .tokens)) 3 row 2 (is .0),
           held-word 3 tokenRow row-wide nowhere ps (words .tokens) (row - 1) 1 (omega (arith, is .0, is .1)) (omega arith),
           held-word 3 tokenRow row-wide nowhere ps (words .tokens) (row - 1) 2 (omega (arith, is .0, is .1)) (omega arith),
           List·getD-map (λ p. p .at) ps (row - 1) nowhere,

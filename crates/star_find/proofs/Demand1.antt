@@ -6,18 +6,18 @@ use mathlib.Core.Option.{Option, none, some}
 use Prim.Native.Nat.{ℕ, zero, suc, _+_, _-_, _≤_}
 use native.Mathlib.Nat.{add-suc, suc-add, zero-add}
 use native.Mathlib.Omega.{arith}
-use borrow.Author.Tests.{eqb-false}
-use lib.Dec.{eqb}
 use lib.ListN.{take, drop}
-use Rattle.star_lex.specs.Found.{isSome}
-use Rattle.star_unique.specs.Repeat.{same}
-use Rattle.star_find.specs.Find.{Lent, isRow, wordOf, contentAt, found, refused, meet, seek, isWanted, look, countsFit, findName, findBlock, findFrame, kth, located, locate, valueOf, valueAt, orEmpty, valuePart, valueSpan}
+use Rattle.star_rows.specs.Rows.{wordOf}
+use Rattle.star_lex.specs.Table.{orEmpty}
+use Rattle.star_text.specs.Names.{same}
+use Rattle.star_find.specs.Find.{Lent, isRow, contentAt, found, refused, meet, seek, isWanted, look, countsFit, rowThere, findName, findBlock, findFrame, missing, locate, valueOf, valueAt, valuePart, spanAt, valueSpan}
 use Rattle.star_find.specs.Demands.{RowAnswer, LookupsAnswer, ValueAnswer, ValuesAnswer, SpanPart}
 use Rattle.star_find.specs.declared.Counts.{Counts}
 use Rattle.star_find.specs.declared.Found.{Found}
+use Rattle.star_find.specs.declared.Located.{Located}
 use Rattle.star_find.specs.declared.Value.{Value}
 use Rattle.star_find.specs.declared.Span.{Span}
-use Rattle.star_find.proofs.Looking.{kth-bound, Inside, part-inside, found-row}
+use Rattle.star_find.proofs.Looking.{Inside, part-inside, Locates, locates}
 
 answer-cond : {rows : ℕ} {a b : Found} (t : Bool) → RowAnswer rows a → RowAnswer rows b → RowAnswer rows (cond t a b)
 answer-cond true p q = p
@@ -53,37 +53,20 @@ pub lookups-answer : LookupsAnswer
 unfolding findBlock findFrame findName
 lookups-answer l c = (
   λ code. answer-cond (countsFit l c) (look-answers l c (l .sets) 3 1 false 0 code (c .sets)) outside,
-  λ set code. answer-cond (countsFit l c) (answer-cond (isRow (c .sets) set) (look-answers l c (l .sets) 3 2 true set code (c .sets)) outside) outside,
-  λ set name. answer-cond (countsFit l c) (answer-cond (isRow (c .sets) set) (look-answers l c (l .names) 4 set false 0 name (c .names)) outside) outside,
+  λ set code. answer-cond (rowThere l c (c .sets) set) (look-answers l c (l .sets) 3 2 true set code (c .sets)) outside,
+  λ set name. answer-cond (rowThere l c (c .sets) set) (look-answers l c (l .names) 4 set false 0 name (c .names)) outside,
 )
 
--- a value row
-located-answers : (l : Lent) (c : Counts) (row : ℕ) → row ≤ c .values → RowAnswer (c .values) (located l c row)
-unfolding located refused found
-located-answers l c row h = by (eqb row 0) refl
-  where
-    by : (t : Bool) → eqb row 0 ≡ t → RowAnswer (c .values) (located l c row)
-    by true e = rw e RowAnswer.nowhere
-    by false e =
-        rw e (answer-cond (isSome (contentAt (l .file) (l .tokens) (c .tokens) (wordOf (l .values) 3 row 2)))
-        (RowAnswer.at row (omega (arith, eqb-false row 0 e)) h) RowAnswer.outside)
-
-locate-answers : (l : Lent) (c : Counts) (name k : ℕ) → RowAnswer (c .values) (locate l c name k)
-unfolding locate
-locate-answers l c name k =
-    answer-cond (countsFit l c) (answer-cond (isRow (c .names) name)
-    (located-answers l c _ (rw zero-add at (kth-bound (λ row. eqb (wordOf (l .values) 3 row 0) name) k (c .values) 0))) outside) outside
-
 pub values-answer : ValuesAnswer
-unfolding valueAt valueSpan valuePart valueOf wordOf orEmpty
-values-answer l c name k = by (locate l c name k) refl (locate-answers l c name k)
+unfolding valueAt valueSpan valuePart valueOf spanAt orEmpty missing wordOf contentAt isRow
+values-answer l c name k = by (locate l c name k) refl (locates l c name k)
   where
-    by : (f : Found) → locate l c name k ≡ f → RowAnswer (c .values) f → ValueAnswer (l .file) (valueAt l c name k) (valueSpan l c name k) (valuePart l c name k)
-    by _ e (RowAnswer.at row low high) =
-        let p : Inside (l .file) (l .tokens) (c .tokens) (wordOf (l .values) 3 row 2) = part-inside _ _ _ _ (found-row l c name k (record { refusal = 0; row = row }) (sym e) refl .inside) in
+    by : (f : Located) → locate l c name k ≡ f → Locates l c f → ValueAnswer (l .file) (valueAt l c name k) (valueSpan l c name k) (valuePart l c name k)
+    by _ e (Locates.at packet token h) =
+        let p : Inside (l .file) (l .tokens) (c .tokens) token = part-inside _ _ _ _ h in
         rw (e, p .content-is) (ValueAnswer.at _ _ _ _ (p .ordered) (p .within))
-    by _ e RowAnswer.nowhere = rw e ValueAnswer.nowhere
-    by _ e RowAnswer.outside = rw e ValueAnswer.outside
+    by _ e Locates.nowhere = rw e ValueAnswer.nowhere
+    by _ e Locates.outside = rw e ValueAnswer.outside
 
 answer-part : {file : List ℕ} {v : Value} {s : Span} {part : List ℕ} → ValueAnswer file v s part → take (s .end - s .start) (drop (s .start) file) ≡ part
 answer-part (ValueAnswer.at kind packet start end ordered within) = refl

@@ -9,16 +9,17 @@ use native.Mathlib.Omega.{arith}
 use lib.ListN.{length, getD, length-map, List·getD-map}
 use Rattle.star_lex.specs.Rules.{today}
 use Rattle.star_rows.specs.Rows.{holding}
+use Rattle.star_text.specs.Names.{key}
 use Rattle.star_lex.specs.Tokens.{Placed}
 use Rattle.star_grammar.specs.Tree.{File}
 use Rattle.star_grammar.specs.Tables.{SetRow, NameRow, Rows, setWords, nameWords}
 use Rattle.star_grammar.proofs.Widths.{name-wide, set-wide}
 use Rattle.star_grammar.proofs.RowsOf.{contentIn, nameIn, setIn, fileSets, IsToken}
-use Rattle.star_unique.proofs.Held.{each-at}
+use Rattle.star_lex.proofs.Each.{each-at}
 use Rattle.star_read.specs.Read.{accepted, Sizes, tokensOnly, readOf}
 use Rattle.star_read.proofs.Usable.{today-usable}
 use Rattle.star_read.proofs.Demand3.{rows-of-reading}
-use Rattle.star_find.specs.Find.{findName, findBlock, findFrame, isRow, look, refused}
+use Rattle.star_find.specs.Find.{rowThere, findName, findBlock, findFrame, isRow, look, refused}
 use Rattle.star_find.specs.Demands.{contentOf, HoldsName, FirstName, LookupByName, SetWith, LookupBlock, HoldsFrame, LookupFrame, ValuesInOrder}
 use Rattle.star_find.specs.declared.Found.{Found}
 use Rattle.star_find.proofs.Seeking.{Sought, sought-alike, FirstOf, asked, asked-first, asked-parent, look-sought}
@@ -36,21 +37,21 @@ noSet = record { kind = 0; heading = 0; parent = 0 }
 
 -- a row of a set with a name, and a row of a set with a code
 abbrev HasName : (ps : List Placed) (set : ℕ) (name : List ℕ) → NameRow → Type 0
-HasName ps set name x = (x .set ≡ set) × (contentOf ps (x .name) ≡ name)
+HasName ps set name x = (x .set ≡ set) × (key (contentOf ps (x .name)) ≡ key name)
 
 abbrev HasCode : (ps : List Placed) (kind parent : ℕ) (code : List ℕ) → SetRow → Type 0
-HasCode ps kind parent code x = (x .kind ≡ kind) × (x .parent ≡ parent) × (contentOf ps (x .heading) ≡ code)
+HasCode ps kind parent code x = (x .kind ≡ kind) × (x .parent ≡ parent) × (key (contentOf ps (x .heading)) ≡ key code)
 
-has-name : (ps : List Placed) (set : ℕ) (name : List ℕ) (x : NameRow) → HasName ps set name x ↔ (nameIn (tokensOnly ps) x ≡ (set, name))
+has-name : (ps : List Placed) (set : ℕ) (name : List ℕ) (x : NameRow) → HasName ps set name x ↔ (nameIn (tokensOnly ps) x ≡ (set, key name))
 has-name ps set name x = (
-  λ p. let c : contentIn (tokensOnly ps) (x .name) ≡ name = content-in ps (x .name) ∙ p .1 in λ j. (p .0 j, c j),
+  λ p. let c : contentIn (tokensOnly ps) (x .name) ≡ key name = content-in ps (x .name) ∙ p .1 in λ j. (p .0 j, c j),
   λ q. (ap (λ y. y .0) q, sym (content-in ps (x .name)) ∙ ap (λ y. y .1) q),
 )
 
 has-code : (ps : List Placed) (kind parent : ℕ) (code : List ℕ) (x : SetRow)
-    → HasCode ps kind parent code x ↔ (setIn (tokensOnly ps) x ≡ (kind, parent, code))
+    → HasCode ps kind parent code x ↔ (setIn (tokensOnly ps) x ≡ (kind, parent, key code))
 has-code ps kind parent code x = (
-  λ p. let c : contentIn (tokensOnly ps) (x .heading) ≡ code = content-in ps (x .heading) ∙ p .2 in λ j. (p .0 j, p .1 j, c j),
+  λ p. let c : contentIn (tokensOnly ps) (x .heading) ≡ key code = content-in ps (x .heading) ∙ p .2 in λ j. (p .0 j, p .1 j, c j),
   λ q. (ap (λ y. y .0) q, ap (λ y. y .1) q, sym (content-in ps (x .heading)) ∙ ap (λ y. y .2) q),
 )
 
@@ -59,8 +60,8 @@ first-name : (ps : List Placed) (rows : Rows) (set : ℕ) (name : List ℕ) (row
     → FirstOf (λ i. HasName ps set name (getD (rows .names) i noName)) (length (rows .names)) row → FirstName ps rows set name row
 first-name ps rows set name row p =
     let s : (i : ℕ) → getD (map (λ r. r .set) (rows .names)) i 0 ≡ getD (rows .names) i noName .set = λ i. List·getD-map (λ r. r .set) (rows .names) i noName in
-    let t : (i : ℕ) → contentOf ps (getD (map (λ r. r .name) (rows .names)) i 0) ≡ contentOf ps (getD (rows .names) i noName .name)
-    = λ i. ap (contentOf ps) (List·getD-map (λ r. r .name) (rows .names) i noName) in
+    let t : (i : ℕ) → key (contentOf ps (getD (map (λ r. r .name) (rows .names)) i 0)) ≡ key (contentOf ps (getD (rows .names) i noName .name))
+    = λ i. ap (λ n. key (contentOf ps n)) (List·getD-map (λ r. r .name) (rows .names) i noName) in
     record {
       low = p .low;
       high = p .high;
@@ -76,7 +77,7 @@ set-with ps rows kind parent code row p = record {
   high = p .high;
   of-kind = List·getD-map (λ r. r .kind) (rows .sets) (row - 1) noSet ∙ p .is .0;
   of-parent = List·getD-map (λ r. r .parent) (rows .sets) (row - 1) noSet ∙ p .is .1;
-  equal = ap (contentOf ps) (List·getD-map (λ r. r .heading) (rows .sets) (row - 1) noSet) ∙ p .is .2;
+  equal = ap (λ n. key (contentOf ps n)) (List·getD-map (λ r. r .heading) (rows .sets) (row - 1) noSet) ∙ p .is .2;
 }
 
 -- the searches through the rows of names and of sets
@@ -92,7 +93,7 @@ looked-sets file words ps rows kind byParent parent code =
 module _ (file : List ℕ) (words : Sizes) (ps : List Placed) (rows : Rows) where
   find-name : (set : ℕ) (name : List ℕ)
       → findName (left file words ps rows) (counted ps rows) set name ≡ cond (isRow (length (rows .sets)) set) (looked-names file words ps rows set name) (refused 14)
-  unfolding findName left counted looked-names
+  unfolding findName rowThere left counted looked-names
   find-name set name = rw (counts-fit file words ps rows)
 
   find-block : (code : List ℕ) → findBlock (left file words ps rows) (counted ps rows) code ≡ looked-sets file words ps rows 1 false 0 code
@@ -101,7 +102,7 @@ module _ (file : List ℕ) (words : Sizes) (ps : List Placed) (rows : Rows) wher
 
   find-frame : (set : ℕ) (code : List ℕ)
       → findFrame (left file words ps rows) (counted ps rows) set code ≡ cond (isRow (length (rows .sets)) set) (looked-sets file words ps rows 2 true set code) (refused 14)
-  unfolding findFrame left counted looked-sets
+  unfolding findFrame rowThere left counted looked-sets
   find-frame set code = rw (counts-fit file words ps rows)
 
 -- the rows that each search answers, and what they are in the tree
@@ -117,7 +118,7 @@ module _ (file : List ℕ) (words : Sizes) (ps : List Placed) (rows : Rows) (e :
       (each-at (λ x. IsToken (length ps) (x .name)) (rows .names) i noName h (k .inside .name-tokens))))
 
   sets-sought : (kind : ℕ) (byParent : Bool) (parent : ℕ) (code : List ℕ)
-      → Sought (λ i. (asked kind byParent parent (setWords (getD (rows .sets) i noSet)) ≡ true) × (contentOf ps (getD (rows .sets) i noSet .heading) ≡ code))
+      → Sought (λ i. (asked kind byParent parent (setWords (getD (rows .sets) i noSet)) ≡ true) × (key (contentOf ps (getD (rows .sets) i noSet .heading)) ≡ key code))
       (length (rows .sets)) (looked-sets file words ps rows kind byParent parent code)
   unfolding looked-sets left counted setWords
   sets-sought kind byParent parent code =
@@ -159,25 +160,25 @@ module _ (file : List ℕ) (words : Sizes) (ps : List Placed) (rows : Rows) (e :
       (findName (left file words ps rows) (counted ps rows) set name)
   name-answers set name =
       rw (find-name file words ps rows set name)
-      (answers (nameIn (tokensOnly ps)) (set, name) (HasName ps set name) (has-name ps set name) (rows .names) noName (isRow (length (rows .sets)) set)
+      (answers (nameIn (tokensOnly ps)) (set, key name) (HasName ps set name) (has-name ps set name) (rows .names) noName (isRow (length (rows .sets)) set)
       (looked-names file words ps rows set name) (names-sought set name) (HoldsName f set name) (λ m. holds-name f set name .0 (rw (k .names) at m))
       (λ h. (row-inside (length (rows .sets)) set (h .low) (omega (arith, h .high, sets-are, sets-count 0 f)), rw (k .names) (holds-name f set name .1 h))))
 
   block-answers : (code : List ℕ)
-      → Answers (List·Memᴰ code (map (λ b. b .heading .content) f)) (λ i. HasCode ps 1 0 code (getD (rows .sets) i noSet)) (length (rows .sets))
+      → Answers (List·Memᴰ (key code) (map (λ b. key (b .heading .content)) f)) (λ i. HasCode ps 1 0 code (getD (rows .sets) i noSet)) (length (rows .sets))
       (findBlock (left file words ps rows) (counted ps rows) code)
   block-answers code =
       rw (find-block file words ps rows code)
-      (answers (setIn (tokensOnly ps)) (1, 0, code) (HasCode ps 1 0 code) (has-code ps 1 0 code) (rows .sets) noSet true
-      (looked-sets file words ps rows 1 false 0 code) (blocks-sought code) (List·Memᴰ code (map (λ b. b .heading .content) f)) (λ m. block-code 0 f 0 code (rw (k .sets) at m) .1)
-      (λ h. (refl, rw (k .sets) (code-block 0 f code h))))
+      (answers (setIn (tokensOnly ps)) (1, 0, key code) (HasCode ps 1 0 code) (has-code ps 1 0 code) (rows .sets) noSet true
+      (looked-sets file words ps rows 1 false 0 code) (blocks-sought code) (List·Memᴰ (key code) (map (λ b. key (b .heading .content)) f)) (λ m. block-code 0 f 0 (key code) (rw (k .sets) at m) .1)
+      (λ h. (refl, rw (k .sets) (code-block 0 f (key code) h))))
 
   frame-answers : (set : ℕ) (code : List ℕ)
       → Answers (HoldsFrame f set code) (λ i. HasCode ps 2 set code (getD (rows .sets) i noSet)) (length (rows .sets))
       (findFrame (left file words ps rows) (counted ps rows) set code)
   frame-answers set code =
       rw (find-frame file words ps rows set code)
-      (answers (setIn (tokensOnly ps)) (2, set, code) (HasCode ps 2 set code) (has-code ps 2 set code) (rows .sets) noSet (isRow (length (rows .sets)) set)
+      (answers (setIn (tokensOnly ps)) (2, set, key code) (HasCode ps 2 set code) (has-code ps 2 set code) (rows .sets) noSet (isRow (length (rows .sets)) set)
       (looked-sets file words ps rows 2 true set code) (frames-sought set code) (HoldsFrame f set code) (λ m. holds-frame f set code .0 (rw (k .sets) at m))
       (λ h. (row-inside (length (rows .sets)) set (h .low) (omega (arith, h .high, sets-are, sets-count-codes 0 f)), rw (k .sets) (holds-frame f set code .1 h))))
 
@@ -191,7 +192,7 @@ lookup-by-name file words ps rows e r set name =
 
 pub lookup-block : LookupBlock
 lookup-block file words ps rows e r code =
-    let a : Answers (List·Memᴰ code (map (λ b. b .heading .content) (r .tree))) (λ i. HasCode ps 1 0 code (getD (rows .sets) i noSet)) (length (rows .sets))
+    let a : Answers (List·Memᴰ (key code) (map (λ b. key (b .heading .content)) (r .tree))) (λ i. HasCode ps 1 0 code (getD (rows .sets) i noSet)) (length (rows .sets))
     (findBlock (left file words ps rows) (counted ps rows) code)
     = block-answers file words ps rows e (r .tree) (rows-after file words ps rows e r) code in
     rw (lent-left file words ps rows e, counts-counted file words ps rows e) (a .0, λ h. set-with ps rows 1 0 code _ (a .1 h))

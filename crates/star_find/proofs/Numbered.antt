@@ -8,6 +8,7 @@ use native.Mathlib.Nat.{add-zero, suc-add, add-suc}
 use native.Mathlib.Numerals.{add-one}
 use native.Mathlib.Omega.{arith}
 use lib.ListN.{length, getD, length-append, length-map}
+use Rattle.star_text.specs.Names.{key}
 use Rattle.star_grammar.specs.Tree.{Member, own, framed, Block, File}
 use Rattle.star_grammar.specs.Reading.{entryNames, ownNames, frameCodes}
 use Rattle.star_grammar.proofs.RowsOf.{of, framesOf, membersNames, fileNames, fileSets}
@@ -131,12 +132,12 @@ names-numbered sets (b ∷ f) =
     (after-same (of (suc sets) (flatMap ownNames ms) ++ numbered (suc sets) (flatMap frameNames ms)) (names-numbered further f)))
 
 -- a name with its set's number is in the tree exactly when the set holds it
-pub holds-name : (f : File) (set : ℕ) (name : List ℕ) → List·Memᴰ (set, name) (fileNames 0 f) ↔ HoldsName f set name
+pub holds-name : (f : File) (set : ℕ) (name : List ℕ) → List·Memᴰ (set, key name) (fileNames 0 f) ↔ HoldsName f set name
 holds-name f set name = (
-  λ m. let k : InSet 0 (flatMap blockNames f) set name = numbered-in 0 (flatMap blockNames f) set name (names-numbered 0 f .forth _ m) in
+  λ m. let k : InSet 0 (flatMap blockNames f) set (key name) = numbered-in 0 (flatMap blockNames f) set (key name) (names-numbered 0 f .forth _ m) in
       record { low = omega (arith, k .low); high = omega (arith, k .high); holds = k .holds },
   λ h. let e : suc 0 + (set - 1) ≡ set = omega (arith, h .low) in
-      names-numbered 0 f .back _ (rw e at (in-numbered 0 (flatMap blockNames f) (set - 1) name (h .holds))),
+      names-numbered 0 f .back _ (rw e at (in-numbered 0 (flatMap blockNames f) (set - 1) (key name) (h .holds))),
 )
 
 pub sets-count : (sets : ℕ) (f : File) → length (fileSets sets f) ≡ length (flatMap blockNames f)
@@ -175,7 +176,7 @@ frames-member {kind} {parent} {code} block codes m =
 
 -- a set of a file: the first block, a frame of it, or a set of the further blocks
 set-cases {ℓ} : {P : Type ℓ} (sets kind parent : ℕ) (code : List ℕ) (b : Block) (f : File) → List·Memᴰ (kind, parent, code) (fileSets sets (b ∷ f))
-    → (kind ≡ 1 → parent ≡ 0 → code ≡ b .heading .content → P)
+    → (kind ≡ 1 → parent ≡ 0 → code ≡ key (b .heading .content) → P)
     → (kind ≡ 2 → parent ≡ suc sets → List·Memᴰ code (flatMap frameCodes (b .members)) → P)
     → (List·Memᴰ (kind, parent, code) (fileSets (suc sets + length (flatMap frameCodes (b .members))) f) → P) → P
 set-cases sets kind parent code b f m block frame further =
@@ -208,12 +209,12 @@ numbered-frame sets (b ∷ f) set code m =
     (List·Memᴰ·append-cases (of (suc sets) codes) (rw (codes-numbered sets b f) at m)))
 
 -- a frame's row with its parent and code is in the tree exactly when the parent holds a frame of that code
-pub holds-frame : (f : File) (set : ℕ) (code : List ℕ) → List·Memᴰ (2, set, code) (fileSets 0 f) ↔ HoldsFrame f set code
+pub holds-frame : (f : File) (set : ℕ) (code : List ℕ) → List·Memᴰ (2, set, key code) (fileSets 0 f) ↔ HoldsFrame f set code
 holds-frame f set code = (
-  λ m. let k : InSet 0 (flatMap blockCodes f) set code = numbered-in 0 (flatMap blockCodes f) set code (frame-numbered 0 f set code m) in
+  λ m. let k : InSet 0 (flatMap blockCodes f) set (key code) = numbered-in 0 (flatMap blockCodes f) set (key code) (frame-numbered 0 f set (key code) m) in
       record { low = omega (arith, k .low); high = omega (arith, k .high); holds = k .holds },
   λ h. let e : suc 0 + (set - 1) ≡ set = omega (arith, h .low) in
-      numbered-frame 0 f set code (rw e at (in-numbered 0 (flatMap blockCodes f) (set - 1) code (h .holds))),
+      numbered-frame 0 f set (key code) (rw e at (in-numbered 0 (flatMap blockCodes f) (set - 1) (key code) (h .holds))),
 )
 
 pub sets-count-codes : (sets : ℕ) (f : File) → length (fileSets sets f) ≡ length (flatMap blockCodes f)
@@ -225,14 +226,14 @@ sets-count-codes sets (b ∷ f) =
 
 -- a block's row is in the tree exactly when a block has its code
 pub block-code : (sets : ℕ) (f : File) (parent : ℕ) (code : List ℕ) → List·Memᴰ (1, parent, code) (fileSets sets f)
-    → (parent ≡ 0) × List·Memᴰ code (map (λ b. b .heading .content) f)
+    → (parent ≡ 0) × List·Memᴰ code (map (λ b. key (b .heading .content)) f)
 block-code sets [] parent code m = absurd (List·Memᴰ·not-nil m)
 block-code sets (b ∷ f) parent code m =
     set-cases sets 1 parent code b f m (λ k p c. (p, List·Memᴰ·head c)) (λ k p c. absurd (omega arith))
-    (λ n. let k : (parent ≡ 0) × List·Memᴰ code (map (λ b. b .heading .content) f)
+    (λ n. let k : (parent ≡ 0) × List·Memᴰ code (map (λ b. key (b .heading .content)) f)
     = block-code (suc sets + length (flatMap frameCodes (b .members))) f parent code n in (k .0, List·Memᴰ·tail (k .1)))
 
-pub code-block : (sets : ℕ) (f : File) (code : List ℕ) → List·Memᴰ code (map (λ b. b .heading .content) f)
+pub code-block : (sets : ℕ) (f : File) (code : List ℕ) → List·Memᴰ code (map (λ b. key (b .heading .content)) f)
     → List·Memᴰ (1, 0, code) (fileSets sets f)
 code-block sets [] code m = absurd (List·Memᴰ·not-nil m)
 code-block sets (b ∷ f) code m =

@@ -10,12 +10,12 @@ use native.Mathlib.Omega.{arith}
 use borrow.Author.Tests.{eqb-true, eqb-false, eq-eqb}
 use lib.Dec.{eqb}
 use lib.ListN.{length, getD}
-use Rattle.star_rows.specs.Rows.{holding}
-use Rattle.star_rows.proofs.Held.{held-word}
+use Rattle.star_rows.specs.Rows.{wordOf, holding}
+use Rattle.star_rows.proofs.Words.{word-held}
 use Rattle.star_lex.proofs.Cases.{impossible}
-use Rattle.star_unique.specs.Repeat.{same}
-use Rattle.star_unique.proofs.Distinct.{same-true, same-false}
-use Rattle.star_find.specs.Find.{Lent, wordOf, contentAt, isWanted, seek, meet, found, refused, look}
+use Rattle.star_text.specs.Names.{key, same}
+use Rattle.star_text.proofs.Names.{same-true, same-false}
+use Rattle.star_find.specs.Find.{Lent, contentAt, isWanted, seek, meet, found, refused, look}
 use Rattle.star_find.specs.declared.Counts.{Counts}
 use Rattle.star_find.specs.declared.Found.{Found}
 
@@ -57,7 +57,7 @@ below-next P n b h j l p = go (eqb j n) refl
 
 -- a row that is looked at and whose content is the wanted bytes
 abbrev pub Hit : (isOne : ℕ → Bool) (contents : ℕ → List ℕ) (wanted : List ℕ) → ℕ → Type 0
-Hit isOne contents wanted i = (isOne (suc i) ≡ true) × (contents i ≡ wanted)
+Hit isOne contents wanted i = (isOne (suc i) ≡ true) × (key (contents i) ≡ key wanted)
 
 module _ (isOne : ℕ → Bool) (content : ℕ → Option (List ℕ)) (wanted : List ℕ) (contents : ℕ → List ℕ) (n : ℕ)
     (inside : (i : ℕ) → i < n → content (suc i) ≡ some (contents i)) where
@@ -97,22 +97,16 @@ asked-parent first parent ws = (
 )
 
 module _ {A : Type 0} (width : ℕ) (words : A → List ℕ) (wide : (x : A) → length (words x) ≡ width) (d : A) (xs : List A) (size : ℕ) where
-  pub word-held : (i k : ℕ) → i < length xs → k < width → wordOf (holding words xs size) width (suc i) k ≡ getD (words (getD xs i d)) k 0
-  unfolding wordOf
-  word-held i k h l =
-      ap (λ n. getD (holding words xs size) (n * width + k) 0) (let e : suc i - 1 ≡ i = omega arith in e)
-      ∙ held-word width words wide d xs size i k h l
-
   wanted-held : (first : ℕ) (byParent : Bool) (parent : ℕ) (i : ℕ) → i < length xs → 2 < width
       → isWanted (holding words xs size) width first byParent parent (suc i) ≡ asked first byParent parent (words (getD xs i d))
   unfolding isWanted
-  wanted-held first byParent parent i h l = rw (word-held i 0 h (omega arith), word-held i 2 h l)
+  wanted-held first byParent parent i h l = rw (word-held width words wide d xs size i 0 h (omega arith), word-held width words wide d xs size i 2 h l)
 
   -- looking through a table that holds rows, whose second words are tokens with these contents
   pub look-sought : (l : Lent) (c : Counts) (first : ℕ) (byParent : Bool) (parent : ℕ) (wanted : List ℕ) (contents : ℕ → List ℕ) → 2 < width
       → ((i : ℕ) → i < length xs
       → contentAt (l .file) (l .tokens) (c .tokens) (getD (words (getD xs i d)) 1 0) ≡ some (contents (getD (words (getD xs i d)) 1 0)))
-      → Sought (λ i. (asked first byParent parent (words (getD xs i d)) ≡ true) × (contents (getD (words (getD xs i d)) 1 0) ≡ wanted)) (length xs)
+      → Sought (λ i. (asked first byParent parent (words (getD xs i d)) ≡ true) × (key (contents (getD (words (getD xs i d)) 1 0)) ≡ key wanted)) (length xs)
       (look l c (holding words xs size) width first byParent parent wanted (length xs))
   unfolding look
   look-sought l c first byParent parent wanted contents w inside =
@@ -121,4 +115,4 @@ module _ {A : Type 0} (width : ℕ) (words : A → List ℕ) (wide : (x : A) →
       (seek-sought (isWanted (holding words xs size) width first byParent parent)
       (λ row. contentAt (l .file) (l .tokens) (c .tokens) (wordOf (holding words xs size) width row 1)) wanted
       (λ i. contents (getD (words (getD xs i d)) 1 0)) (length xs)
-      (λ i h. rw (word-held i 1 h (omega arith)) (inside i h)))
+      (λ i h. rw (word-held width words wide d xs size i 1 h (omega arith)) (inside i h)))

@@ -10,17 +10,19 @@ use native.Mathlib.Omega.{arith}
 use borrow.Author.Tests.{ne-eqb}
 use lib.Dec.{eqb}
 use lib.ListN.{length, getD, length-append}
-use Rattle.star_rows.specs.Rows.{holding}
+use Rattle.star_rows.specs.Rows.{wordOf, holding}
+use Rattle.star_rows.proofs.Words.{word-held}
 use Rattle.star_lex.specs.Tokens.{Placed, tokenRow}
 use Rattle.star_lex.specs.Found.{isSome}
+use Rattle.star_lex.specs.Table.{orEmpty}
 use Rattle.star_grammar.specs.Tables.{ValueRow, Rows, valueWords}
 use Rattle.star_grammar.proofs.Widths.{value-wide}
 use Rattle.star_grammar.proofs.RowsOf.{IsToken, Inside}
-use Rattle.star_unique.proofs.Held.{each-at}
+use Rattle.star_lex.proofs.Each.{each-at}
 use Rattle.star_read.specs.Read.{accepted, Sizes, readOf}
-use Rattle.star_find.specs.Find.{wordOf, contentAt, refused, found, kth, located, locate, valueOf, valueAt, orEmpty, valuePart, valueSpan}
+use Rattle.star_find.specs.Find.{isRow, contentAt, rowThere, kth, missing, located, locate, valueOf, valueAt, valuePart, spanAt, valueSpan}
 use Rattle.star_find.specs.Demands.{contentOf, kindOf, spanOf, ofName}
-use Rattle.star_find.proofs.Seeking.{word-held}
+use Rattle.star_find.specs.declared.Located.{Located}
 use Rattle.star_find.proofs.After.{left, counted, counts-fit, row-inside, token-content, token-kind, token-span}
 
 -- no row, which stands where there is none
@@ -88,6 +90,10 @@ module _ (isOne : ℕ → Bool) (name : ℕ) where
           (later bs v behind (cc))
       go false q bs h later = further (suc (length bs)) (suc (length bs)) (kth-passes (suc (length bs)) (length xs) (suc at) (first-row at x xs r ∙ q)) (later bs v behind h)
 
+-- a value that is found
+abbrev placed : ValueRow → Located
+placed v = record { refusal = 0; packet = v .packet; token = v .value }
+
 -- a row of table 5 of that name
 isValue : (words : Sizes) (rows : Rows) (name row : ℕ) → Bool
 isValue words rows name row = eqb (wordOf (holding valueWords (rows .values) (words .values)) 3 row 0) name
@@ -102,7 +108,7 @@ module _ (file : List ℕ) (words : Sizes) (ps : List Placed) (rows : Rows) (e :
 
   locates : (n : ℕ) → locate (left file words ps rows) (counted ps rows) name n
       ≡ located (left file words ps rows) (counted ps rows) (kth (isValue words rows name) n (length (rows .values)) 1)
-  unfolding locate left counted isValue
+  unfolding locate rowThere left counted isValue
   locates n = rw (counts-fit file words ps rows, row-inside (length (rows .names)) name low high)
 
   -- a value row that is found
@@ -113,41 +119,39 @@ module _ (file : List ℕ) (words : Sizes) (ps : List Placed) (rows : Rows) (e :
     value-word : (n : ℕ) → n < 3 → wordOf (holding valueWords (rows .values) (words .values)) 3 (suc i) n ≡ getD (valueWords v) n 0
     value-word n h = rw is at (word-held 3 valueWords value-wide noValue (rows .values) (words .values) i n below h)
 
-    value-located : located (left file words ps rows) (counted ps rows) (suc i) ≡ found (suc i)
+    value-located : located (left file words ps rows) (counted ps rows) (suc i) ≡ placed v
     unfolding located left counted valueWords isSome
-    value-located = rw (ne-eqb (suc i) 0 (λ z. omega arith), value-word 2 (omega arith), token-content file words ps rows e (v .value) value-token)
+    value-located =
+        rw (ne-eqb (suc i) 0 (λ z. omega arith), value-word 2 (omega arith), token-content file words ps rows e (v .value) value-token, value-word 1 (omega arith))
 
-    value-is : valueOf (left file words ps rows) (found (suc i)) ≡ record { refusal = 0; kind = kindOf ps (v .value); packet = v .packet }
-    unfolding valueOf left found valueWords
-    value-is = rw (value-word 2 (omega arith), value-word 1 (omega arith), token-kind file words ps rows e (v .value) value-token)
+    value-is : valueOf (left file words ps rows) (placed v) ≡ record { refusal = 0; kind = kindOf ps (v .value); packet = v .packet }
+    unfolding valueOf left
+    value-is = rw (token-kind file words ps rows e (v .value) value-token)
 
-    part-is : orEmpty (contentAt file (holding tokenRow ps (words .tokens)) (length ps) (wordOf (holding valueWords (rows .values) (words .values)) 3 (suc i) 2))
-        ≡ contentOf ps (v .value)
-    unfolding orEmpty valueWords
-    part-is = rw (value-word 2 (omega arith), token-content file words ps rows e (v .value) value-token)
-
-    span-is : record { start = wordOf (holding tokenRow ps (words .tokens)) 3 (wordOf (holding valueWords (rows .values) (words .values)) 3 (suc i) 2) 1; end = wordOf (holding tokenRow ps (words .tokens)) 3 (wordOf (holding valueWords (rows .values) (words .values)) 3 (suc i) 2) 2 }
-        ≡ spanOf ps (v .value)
-    unfolding valueWords
-    span-is = rw (value-word 2 (omega arith)) (token-span file words ps rows e (v .value) value-token)
+    part-is : orEmpty (contentAt file (holding tokenRow ps (words .tokens)) (length ps) (v .value)) ≡ contentOf ps (v .value)
+    unfolding orEmpty
+    part-is = rw (token-content file words ps rows e (v .value) value-token)
 
   pub value-found : (before : List ValueRow) (v : ValueRow) (behind : List ValueRow) → ofName name (rows .values) ≡ before ++ (v ∷ behind)
       → (valueAt (left file words ps rows) (counted ps rows) name (suc (length before)) ≡ record { refusal = 0; kind = kindOf ps (v .value); packet = v .packet })
       × (valuePart (left file words ps rows) (counted ps rows) name (suc (length before)) ≡ contentOf ps (v .value))
       × (valueSpan (left file words ps rows) (counted ps rows) name (suc (length before)) ≡ spanOf ps (v .value))
-  unfolding valueAt valuePart valueSpan left counted found
+  unfolding valueAt valuePart valueSpan left counted
   value-found before v behind h =
       let p : RowOf (isValue words rows name) name (rows .values) 0 (suc (length before)) v = kth-row (isValue words rows name) name (rows .values) 0 values-from before v behind h in
-      let q : locate (left file words ps rows) (counted ps rows) name (suc (length before)) ≡ found (suc (p .0))
-      = locates (suc (length before)) ∙ ap (located (left file words ps rows) (counted ps rows)) (p .2 ∙ ap suc (zero-add (p .0))) ∙ value-located v (p .0) (p .1) (p .3) in
-      (ap (valueOf (left file words ps rows)) q ∙ value-is v (p .0) (p .1) (p .3), rw q (part-is v (p .0) (p .1) (p .3)), rw q (span-is v (p .0) (p .1) (p .3)))
+      let q : locate (left file words ps rows) (counted ps rows) name (suc (length before)) ≡ placed v
+      = locates (suc (length before)) ∙ ap (located (left file words ps rows) (counted ps rows)) (p .2 ∙ ap suc (zero-add (p .0))) ∙ value-located v (p .0) (p .1) (p .3) in (
+        ap (valueOf (left file words ps rows)) q ∙ value-is v (p .0) (p .1) (p .3),
+        rw q (part-is v (p .0) (p .1) (p .3)),
+        rw q (token-span file words ps rows e (v .value) (value-token v (p .0) (p .1) (p .3))),
+      )
 
   pub value-none : (n : ℕ) → (n ≡ 0) ⊎ (length (ofName name (rows .values)) < n)
       → (valueAt (left file words ps rows) (counted ps rows) name n ≡ record { refusal = 13; kind = 0; packet = 0 })
       × (valuePart (left file words ps rows) (counted ps rows) name n ≡ [])
       × (valueSpan (left file words ps rows) (counted ps rows) name n ≡ record { start = 0; end = 0 })
-  unfolding valueAt valuePart valueSpan valueOf located refused
+  unfolding valueAt valuePart valueSpan valueOf spanAt located missing wordOf contentAt isRow orEmpty
   value-none n h =
-      let q : locate (left file words ps rows) (counted ps rows) name n ≡ refused 13
+      let q : locate (left file words ps rows) (counted ps rows) name n ≡ missing 13
       = locates n ∙ ap (located (left file words ps rows) (counted ps rows)) (kth-none (isValue words rows name) name (rows .values) 0 n values-from h) in
       (ap (valueOf (left file words ps rows)) q, rw q, rw q)

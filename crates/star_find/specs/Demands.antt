@@ -6,6 +6,7 @@ use mathlib.Core.List.{List, [], _∷_, _++_, map, flatMap, List·Memᴰ}
 use Prim.Native.Nat.{ℕ, suc, _+_, _-_, _≤_, _<_}
 use lib.Dec.{eqb}
 use lib.ListN.{length, getD, take, drop}
+use Rattle.star_text.specs.Names.{key}
 use Rattle.star_lex.specs.Tokens.{Placed, opening}
 use Rattle.star_grammar.specs.Tree.{Member, own, framed, Block, File}
 use Rattle.star_grammar.specs.Tables.{Rows, ValueRow}
@@ -42,23 +43,23 @@ blockNames b = flatMap ownNames (b .members) ∷ flatMap frameNames (b .members)
 pub record HoldsName (f : File) (set : ℕ) (name : List ℕ) : Type 0 where
   pub low : 1 ≤ set
   pub high : set ≤ length (flatMap blockNames f)
-  pub holds : List·Memᴰ name (getD (flatMap blockNames f) (set - 1) [])
+  pub holds : List·Memᴰ (key name) (getD (flatMap blockNames f) (set - 1) [])
 
 -- the content of the token of that row
 unfoldable pub contentOf : List Placed → (row : ℕ) → List ℕ
 contentOf ps row = getD (map (λ p. p .token .content) ps) (row - 1) []
 
--- a row of a set with equal bytes, the first
+-- a row of a set with an equal name, the first
 pub record FirstName (ps : List Placed) (rows : Rows) (set : ℕ) (name : List ℕ) (row : ℕ) : Type 0 where
   pub low : 1 ≤ row
   pub high : row ≤ length (rows .names)
   pub of-set : getD (map (λ r. r .set) (rows .names)) (row - 1) 0 ≡ set
-  pub equal : contentOf ps (getD (map (λ r. r .name) (rows .names)) (row - 1) 0) ≡ name
+  pub equal : key (contentOf ps (getD (map (λ r. r .name) (rows .names)) (row - 1) 0)) ≡ key name
   pub first : (other : ℕ) → 1 ≤ other → other < row → getD (map (λ r. r .set) (rows .names)) (other - 1) 0 ≡ set
-      → contentOf ps (getD (map (λ r. r .name) (rows .names)) (other - 1) 0) ≡ name → ⊥
+      → key (contentOf ps (getD (map (λ r. r .name) (rows .names)) (other - 1) 0)) ≡ key name → ⊥
 
 -- demand 3, fifth sentence: after acceptance, for any set number and any name, lookup by name succeeds exactly when there is a set of that
--- number and it holds the name, and answers the first row with equal bytes
+-- number and it holds the name, and answers the first row with an equal name
 abbrev pub LookupByName : Type 0
 LookupByName = (file : List ℕ) (words : Sizes) (ps : List Placed) (rows : Rows) → readOf file words ≡ accepted ps rows
     → (r : Reading (tokensOnly ps)) (set : ℕ) (name : List ℕ)
@@ -66,19 +67,19 @@ LookupByName = (file : List ℕ) (words : Sizes) (ps : List Placed) (rows : Rows
     × (findName (lentAfter file words) (countsAfter file words) set name .refusal ≡ 0
     → FirstName ps rows set name (findName (lentAfter file words) (countsAfter file words) set name .row))
 
--- a set row of that kind and parent whose code has these bytes
+-- a set row of that kind and parent whose code is equal to this one
 pub record SetWith (ps : List Placed) (rows : Rows) (kind parent : ℕ) (code : List ℕ) (row : ℕ) : Type 0 where
   pub low : 1 ≤ row
   pub high : row ≤ length (rows .sets)
   pub of-kind : getD (map (λ r. r .kind) (rows .sets)) (row - 1) 0 ≡ kind
   pub of-parent : getD (map (λ r. r .parent) (rows .sets)) (row - 1) 0 ≡ parent
-  pub equal : contentOf ps (getD (map (λ r. r .heading) (rows .sets)) (row - 1) 0) ≡ code
+  pub equal : key (contentOf ps (getD (map (λ r. r .heading) (rows .sets)) (row - 1) 0)) ≡ key code
 
 -- block lookup succeeds exactly when a block of that code is in the reading
 abbrev pub LookupBlock : Type 0
 LookupBlock = (file : List ℕ) (words : Sizes) (ps : List Placed) (rows : Rows) → readOf file words ≡ accepted ps rows
     → (r : Reading (tokensOnly ps)) (code : List ℕ)
-    → ((findBlock (lentAfter file words) (countsAfter file words) code .refusal ≡ 0) ↔ List·Memᴰ code (map (λ b. b .heading .content) (r .tree)))
+    → ((findBlock (lentAfter file words) (countsAfter file words) code .refusal ≡ 0) ↔ List·Memᴰ (key code) (map (λ b. key (b .heading .content)) (r .tree)))
     × (findBlock (lentAfter file words) (countsAfter file words) code .refusal ≡ 0
     → SetWith ps rows 1 0 code (findBlock (lentAfter file words) (countsAfter file words) code .row))
 
@@ -94,7 +95,7 @@ blockCodes b = flatMap frameCodes (b .members) ∷ flatMap noCodes (b .members)
 pub record HoldsFrame (f : File) (set : ℕ) (code : List ℕ) : Type 0 where
   pub low : 1 ≤ set
   pub high : set ≤ length (flatMap blockCodes f)
-  pub holds : List·Memᴰ code (getD (flatMap blockCodes f) (set - 1) [])
+  pub holds : List·Memᴰ (key code) (getD (flatMap blockCodes f) (set - 1) [])
 
 abbrev pub LookupFrame : Type 0
 LookupFrame = (file : List ℕ) (words : Sizes) (ps : List Placed) (rows : Rows) → readOf file words ≡ accepted ps rows

@@ -1,14 +1,17 @@
 -- Lookup in tables that are not trusted: specification 10 and 11.
 use mathlib.Core.Bool.{Bool, true, false, cond, not, _&&_, _||_}
-use mathlib.Core.List.{List, []}
+use mathlib.Core.List.{List}
 use mathlib.Core.Option.{Option, none, some}
-use Prim.Native.Nat.{ℕ, zero, suc, _+_, _-_, _*_}
+use Prim.Native.Nat.{ℕ, zero, suc, _-_}
 use lib.Dec.{eqb, leb}
-use lib.ListN.{length, getD, take, drop}
+use lib.ListN.{length}
+use Rattle.star_rows.specs.Rows.{wordOf, hasRoom}
 use Rattle.star_lex.specs.Found.{isSome}
-use Rattle.star_unique.specs.Repeat.{same}
+use Rattle.star_lex.specs.Table.{contentIn, orEmpty}
+use Rattle.star_text.specs.Names.{same}
 use Rattle.star_find.specs.declared.Counts.{Counts}
 use Rattle.star_find.specs.declared.Found.{Found}
+use Rattle.star_find.specs.declared.Located.{Located}
 use Rattle.star_find.specs.declared.Value.{Value}
 use Rattle.star_find.specs.declared.Span.{Span}
 use Rattle.star_find.specs.declared.Match.{Match}
@@ -29,25 +32,17 @@ lent file tokens sets names packets values = record { file = file; tokens = toke
 -- no count is larger than its table holds
 unfoldable pub fits : (tokens sets names packets values : List ℕ) → Counts → Bool
 fits tokens sets names packets values c =
-    leb (c .tokens * 3) (length tokens)
-    && (leb (c .sets * 3) (length sets)
-    && (leb (c .names * 4) (length names) && (leb (c .packets * 3) (length packets) && leb (c .values * 3) (length values))))
+    hasRoom (c .tokens) 3 (length tokens)
+    && (hasRoom (c .sets) 3 (length sets)
+    && (hasRoom (c .names) 4 (length names) && (hasRoom (c .packets) 3 (length packets) && hasRoom (c .values) 3 (length values))))
 
 -- a row number that is neither 0 nor above its count
 unfoldable pub isRow : (count row : ℕ) → Bool
 isRow count row = leb 1 row && leb row count
 
--- a word of a row of a table, rows counted from 1 and words from 0
-unfoldable pub wordOf : List ℕ → (width row word : ℕ) → ℕ
-wordOf table width row word = getD table ((row - 1) * width + word) 0
-
--- the part of the file from a start to an end, if the start is not after the end and the end not after the file
-unfoldable pub partOf : List ℕ → (start end : ℕ) → Option (List ℕ)
-partOf file start end = cond (leb start end && leb end (length file)) (some (take (end - start) (drop start file))) none
-
 -- the content of a token row: none where the row or its span points outside
 unfoldable pub contentAt : (file tokens : List ℕ) → (count row : ℕ) → Option (List ℕ)
-contentAt file tokens count row = cond (isRow count row) (partOf file (wordOf tokens 3 row 1) (wordOf tokens 3 row 2)) none
+contentAt file tokens count row = cond (isRow count row) (contentIn file tokens (row - 1)) none
 
 unfoldable pub found : (row : ℕ) → Found
 found row = record { refusal = 0; row = row }
@@ -79,10 +74,13 @@ look l c table width first byParent parent wanted rows =
 unfoldable pub countsFit : Lent → Counts → Bool
 countsFit l c = fits (l .tokens) (l .sets) (l .names) (l .packets) (l .values) c
 
+-- what is checked before rows of a set or a name are looked at: the counts, and that it is a row
+unfoldable pub rowThere : Lent → Counts → (count row : ℕ) → Bool
+rowThere l c count row = countsFit l c && isRow count row
+
 -- names of a set by name
 unfoldable pub findName : Lent → Counts → (set : ℕ) → (name : List ℕ) → Found
-findName l c set name =
-    cond (countsFit l c) (cond (isRow (c .sets) set) (look l c (l .names) 4 set false 0 name (c .names)) (refused 14)) (refused 14)
+findName l c set name = cond (rowThere l c (c .sets) set) (look l c (l .names) 4 set false 0 name (c .names)) (refused 14)
 
 -- blocks by code
 unfoldable pub findBlock : Lent → Counts → (code : List ℕ) → Found
@@ -90,56 +88,46 @@ findBlock l c code = cond (countsFit l c) (look l c (l .sets) 3 1 false 0 code (
 
 -- frames of a set by code
 unfoldable pub findFrame : Lent → Counts → (set : ℕ) → (code : List ℕ) → Found
-findFrame l c set code =
-    cond (countsFit l c) (cond (isRow (c .sets) set) (look l c (l .sets) 3 2 true set code (c .sets)) (refused 14)) (refused 14)
+findFrame l c set code = cond (rowThere l c (c .sets) set) (look l c (l .sets) 3 2 true set code (c .sets)) (refused 14)
 
 -- the row of the k-th value of a name row, k from 1, among so many rows from this one on; 0 where there are fewer than k or k is 0
 unfoldable pub kth : (isOne : ℕ → Bool) → (k left row : ℕ) → ℕ
 kth isOne k zero row = 0
 kth isOne k (suc left) row = cond (isOne row && eqb k 1) row (kth isOne (cond (isOne row) (k - 1) k) left (suc row))
 
--- the value row that is asked for: 14 for counts and name row, then 13, then 14 for its token row or span
-unfoldable pub located : Lent → Counts → (row : ℕ) → Found
-located l c row =
-    cond (eqb row 0) (refused 13)
-    (cond (isSome (contentAt (l .file) (l .tokens) (c .tokens) (wordOf (l .values) 3 row 2))) (found row) (refused 14))
+-- a value that is refused has packet 0 and token row 0, which has no words and no content
+unfoldable pub missing : (number : ℕ) → Located
+missing number = record { refusal = number; packet = 0; token = 0 }
 
-unfoldable pub locate : Lent → Counts → (name k : ℕ) → Found
+-- the packet and the token row of a value row: 13 where there is none, then 14 for its token row or span
+unfoldable pub located : Lent → Counts → (row : ℕ) → Located
+located l c row =
+    let token : ℕ = wordOf (l .values) 3 row 2 in
+    cond (eqb row 0) (missing 13)
+    (cond (isSome (contentAt (l .file) (l .tokens) (c .tokens) token)) (record { refusal = 0; packet = wordOf (l .values) 3 row 1; token = token }) (missing 14))
+
+-- the value that is asked for: 14 for counts and name row comes first
+unfoldable pub locate : Lent → Counts → (name k : ℕ) → Located
 locate l c name k =
-    cond (countsFit l c)
-    (cond (isRow (c .names) name) (located l c (kth (λ row. eqb (wordOf (l .values) 3 row 0) name) k (c .values) 1)) (refused 14))
-    (refused 14)
+    cond (rowThere l c (c .names) name) (located l c (kth (λ row. eqb (wordOf (l .values) 3 row 0) name) k (c .values) 1)) (missing 14)
 
 -- the kind and the packet of a value, as the tables hold them; a refused value has 0 and 0
-unfoldable pub valueOf : Lent → Found → Value
-valueOf l f =
-    cond (eqb (f .refusal) 0)
-    (record { refusal = 0; kind = wordOf (l .tokens) 3 (wordOf (l .values) 3 (f .row) 2) 0; packet = wordOf (l .values) 3 (f .row) 1 })
-    (record { refusal = f .refusal; kind = 0; packet = 0 })
+unfoldable pub valueOf : Lent → Located → Value
+valueOf l f = record { refusal = f .refusal; kind = wordOf (l .tokens) 3 (f .token) 0; packet = f .packet }
 
 unfoldable pub valueAt : Lent → Counts → (name k : ℕ) → Value
 valueAt l c name k = valueOf l (locate l c name k)
 
 -- the part of the file that a value is; a refused value is an empty part
-unfoldable pub orEmpty : Option (List ℕ) → List ℕ
-orEmpty none = []
-orEmpty (some content) = content
-
 unfoldable pub valuePart : Lent → Counts → (name k : ℕ) → List ℕ
-valuePart l c name k =
-    let f : Found = locate l c name k in
-    cond (eqb (f .refusal) 0) (orEmpty (contentAt (l .file) (l .tokens) (c .tokens) (wordOf (l .values) 3 (f .row) 2))) []
+valuePart l c name k = orEmpty (contentAt (l .file) (l .tokens) (c .tokens) (locate l c name k .token))
 
 -- where the part of a value lies in the file; a refused value has 0 and 0
-unfoldable pub valueSpan : Lent → Counts → (name k : ℕ) → Span
-valueSpan l c name k =
-    let f : Found = locate l c name k in
-    let token : ℕ = wordOf (l .values) 3 (f .row) 2 in
-    cond (eqb (f .refusal) 0) (record { start = wordOf (l .tokens) 3 token 1; end = wordOf (l .tokens) 3 token 2 }) (record { start = 0; end = 0 })
+unfoldable pub spanAt : (tokens : List ℕ) → (token : ℕ) → Span
+spanAt tokens token = record { start = wordOf tokens 3 token 1; end = wordOf tokens 3 token 2 }
 
--- so many bytes behind an address, which is a block of memory and an offset in it
-abbrev pub further : ℕ × ℕ → ℕ → ℕ × ℕ
-further address bytes = (address .0, bytes + address .1)
+unfoldable pub valueSpan : Lent → Counts → (name k : ℕ) → Span
+valueSpan l c name k = spanAt (l .tokens) (locate l c name k .token)
 
 -- how a content compares
 unfoldable pub matchOf : (wanted : List ℕ) → Option (List ℕ) → Match

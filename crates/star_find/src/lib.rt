@@ -1,13 +1,13 @@
 // Lookup by name and code. The tables, the counts and the numbers may hold anything, and nothing is written.
 ghost use mathlib.Core.Path.{_≡_};
-ghost use mathlib.Core.Bool.{cond, true, _&&_};
-ghost use Prim.Native.Nat.{_*_, _+_, _-_, _≤_};
+ghost use mathlib.Core.Bool.{cond, _&&_};
+ghost use Prim.Native.Nat.{_-_};
 ghost use lib.Dec.{eqb};
-ghost use lib.ListN.{length};
 ghost use denote.Ref.{ptr};
-ghost use Rattle.star_find.specs.Find.{lent, fits, isRow, contentAt, findBlock, findFrame, findName, isWanted, matchOf, wordOf, seek as Find·seek, kth, locate as Find·locate, valueAt, valuePart, valueSpan, further};
+ghost use Rattle.star_rows.specs.Rows.{wordOf};
 ghost use Rattle.star_lex.specs.Found.{isSome};
-ghost use mathlib.Core.Option.{some};
+ghost use Rattle.star_lex.specs.Table.{orEmpty, further};
+ghost use Rattle.star_find.specs.Find.{lent, fits, isRow, contentAt, rowThere, findBlock, findFrame, findName, isWanted, matchOf, seek as Find·seek, kth, locate as Find·locate, valueAt, valuePart, valueSpan};
 ghost use Rattle.star_find.specs.declared.Match.the-variants.{Other};
 
 // How many rows each table has.
@@ -44,10 +44,17 @@ pub struct Span {
 
 // Which rows of a table are looked at: those whose first word is `first` and, by parent, whose third is `parent`.
 pub struct Wanted {
-    pub width: usize,
+    pub width: u32,
     pub first: u32,
     pub by_parent: bool,
     pub parent: u32,
+}
+
+// A value that is asked for: refusal, packet and token row, both 0 where it is refused.
+pub struct Located {
+    pub refusal: u32,
+    pub packet: u32,
+    pub token: u32,
 }
 
 // How a row compares.
@@ -68,22 +75,19 @@ fn counts_fit(
 ) -> bool
     ensures { λ r. ⌜ r ≡ fits (now (tokens .entry)) (now (sets .entry)) (now (names .entry)) (now (packets .entry)) (now (values .entry)) counts ⌝ }
 {
-    if tokens.len() / 3 < counts.tokens as usize {
+    if !star_rows::fits(counts.tokens, 3, tokens.len()) {
         return false;
     }
-    if sets.len() / 3 < counts.sets as usize {
+    if !star_rows::fits(counts.sets, 3, sets.len()) {
         return false;
     }
-    if names.len() / 4 < counts.names as usize {
+    if !star_rows::fits(counts.names, 4, names.len()) {
         return false;
     }
-    if packets.len() / 3 < counts.packets as usize {
+    if !star_rows::fits(counts.packets, 3, packets.len()) {
         return false;
     }
-    if values.len() / 3 < counts.values as usize {
-        return false;
-    }
-    true
+    star_rows::fits(counts.values, 3, values.len())
 }
 
 // Whether a row number is neither 0 nor above its count.
@@ -93,89 +97,101 @@ fn is_row(count: u32, row: u32) -> bool
     if row == 0 { false } else { row <= count }
 }
 
-// Whether a token row and its span point inside.
-fn has_part(file: &[u8], tokens: &[u32], count: u32, row: u32) -> bool
-    requires { ⌜ count * 3 ≤ length (now tokens) ⌝ }
-    ensures { λ r. ⌜ r ≡ isSome (contentAt (now (file .entry)) (now (tokens .entry)) count row) ⌝ }
+// Whether no count is larger than its table holds, and a row number is a row of so many.
+fn row_there(
+    file: &[u8],
+    tokens: &[u32],
+    sets: &[u32],
+    names: &[u32],
+    packets: &[u32],
+    values: &[u32],
+    counts: Counts,
+    count: u32,
+    row: u32,
+) -> bool
+    ensures { λ r. ⌜ r ≡ rowThere (lent (now (file .entry)) (now (tokens .entry)) (now (sets .entry)) (now (names .entry)) (now (packets .entry))
+        (now (values .entry))) counts count row ⌝ }
 {
-    if !is_row(count, row) {
-        return false;
+    if counts_fit(tokens, sets, names, packets, values, counts) {
+        is_row(count, row)
+    } else {
+        false
     }
-    let at = (row as usize - 1) * 3;
-    let start = tokens[at + 1];
-    let end = tokens[at + 2];
-    if end < start {
-        return false;
-    }
-    end as usize <= file.len()
 }
 
-// The part of the file that a token row has, which points inside.
-fn part<'a, 'b>(file: &'a [u8], tokens: &'b [u32], count: u32, row: u32) -> &'a [u8]
-    requires { ⌜ count * 3 ≤ length (now tokens) ⌝ }
-    requires { ⌜ isSome (contentAt (now file) (now tokens) count row) ≡ true ⌝ }
-    ensures { λ r. ⌜ contentAt (now (file .entry)) (now (tokens .entry)) count row ≡ some (now r) ⌝ }
-    ensures { λ r. ⌜ ptr r ≡ further (ptr (file .entry)) (wordOf (now (tokens .entry)) 3 row 1) ⌝ }
+// Whether a token row and its span point inside.
+fn has_part(file: &[u8], tokens: &[u32], count: u32, row: u32) -> bool
+    ensures { λ r. ⌜ r ≡ isSome (contentAt (now (file .entry)) (now (tokens .entry)) count row) ⌝ }
 {
-    let at = (row as usize - 1) * 3;
-    let start = tokens[at + 1] as usize;
-    let end = tokens[at + 2] as usize;
-    &file[start..end]
+    if is_row(count, row) {
+        star_lex::has_content(file, tokens, (row - 1) as usize)
+    } else {
+        false
+    }
+}
+
+// The part of the file that a token row has; it is empty, at the file's start, where the row or its span points outside.
+fn part<'a, 'b>(file: &'a [u8], tokens: &'b [u32], count: u32, row: u32) -> &'a [u8]
+    ensures { λ r. ⌜ now r ≡ orEmpty (contentAt (now (file .entry)) (now (tokens .entry)) count row) ⌝ }
+    ensures { λ r. ⌜ ptr r ≡ further (ptr (file .entry)) (cond (isSome (contentAt (now (file .entry)) (now (tokens .entry)) count row))
+        (wordOf (now (tokens .entry)) 3 row 1) 0) ⌝ }
+{
+    if !is_row(count, row) {
+        return &file[0..0];
+    }
+    star_lex::content(file, tokens, (row - 1) as usize)
 }
 
 // How the content of a token row compares with these bytes.
 fn compare(file: &[u8], tokens: &[u32], count: u32, row: u32, wanted: &[u8]) -> Match
-    requires { ⌜ count * 3 ≤ length (now tokens) ⌝ }
     ensures { λ r. ⌜ r ≡ matchOf (now (wanted .entry)) (contentAt (now (file .entry)) (now (tokens .entry)) count row) ⌝ }
 {
     if !has_part(file, tokens, count, row) {
         return Match::Outside;
     }
-    if star_unique::same(part(file, tokens, count, row), wanted) {
+    if star_text::same(part(file, tokens, count, row), wanted) {
         Match::Equal
     } else {
         Match::Other
     }
 }
 
-// Whether row `i` of a table, counted from 0, is looked at.
-fn is_wanted(table: &[u32], i: usize, w: Wanted) -> bool
-    requires { ⌜ (i + 1) * w .width ≤ length (now table) ⌝ }
-    requires { ⌜ (3 ≤ w .width) × (w .width ≤ 4) ⌝ }
-    ensures { λ r. ⌜ r ≡ isWanted (now (table .entry)) (w .width) (w .first) (w .«by_parent») (w .parent) (i + 1) ⌝ }
+// Whether a row of a table is looked at.
+fn is_wanted(table: &[u32], row: u32, w: Wanted) -> bool
+    ensures { λ r. ⌜ r ≡ isWanted (now (table .entry)) (w .width) (w .first) (w .«by_parent») (w .parent) row ⌝ }
 {
-    let at = i * w.width;
-    if table[at] == w.first {
-        if w.by_parent {
-            table[at + 2] == w.parent
-        } else {
-            true
-        }
+    if star_rows::word(table, w.width, row, 0) != w.first {
+        return false;
+    }
+    if w.by_parent {
+        star_rows::word(table, w.width, row, 2) == w.parent
     } else {
-        false
+        true
     }
 }
 
-// How row `i` of a table, counted from 0, compares by the token in its second word.
+// How a row of a table compares by the token in its second word.
 fn compare_row(
     file: &[u8],
     tokens: &[u32],
     count: u32,
     table: &[u32],
-    i: usize,
+    row: u32,
     w: Wanted,
     bytes: &[u8],
 ) -> Match
-    requires { ⌜ count * 3 ≤ length (now tokens) ⌝ }
-    requires { ⌜ (i + 1) * w .width ≤ length (now table) ⌝ }
-    requires { ⌜ (3 ≤ w .width) × (w .width ≤ 4) ⌝ }
-    ensures { λ r. ⌜ r ≡ cond (isWanted (now (table .entry)) (w .width) (w .first) (w .«by_parent») (w .parent) (i + 1))
-        (matchOf (now (bytes .entry)) (contentAt (now (file .entry)) (now (tokens .entry)) count (wordOf (now (table .entry)) (w .width) (i + 1) 1)))
+    ensures { λ r. ⌜ r ≡ cond (isWanted (now (table .entry)) (w .width) (w .first) (w .«by_parent») (w .parent) row)
+        (matchOf (now (bytes .entry)) (contentAt (now (file .entry)) (now (tokens .entry)) count (wordOf (now (table .entry)) (w .width) row 1)))
         Other ⌝ }
 {
-    if is_wanted(table, i, w) {
-        let at = i * w.width;
-        compare(file, tokens, count, table[at + 1], bytes)
+    if is_wanted(table, row, w) {
+        compare(
+            file,
+            tokens,
+            count,
+            star_rows::word(table, w.width, row, 1),
+            bytes,
+        )
     } else {
         Match::Other
     }
@@ -191,15 +207,12 @@ fn seek(
     w: Wanted,
     bytes: &[u8],
 ) -> Found
-    requires { ⌜ count * 3 ≤ length (now tokens) ⌝ }
-    requires { ⌜ rows * w .width ≤ length (now table) ⌝ }
-    requires { ⌜ (3 ≤ w .width) × (w .width ≤ 4) ⌝ }
     ensures { λ r. ⌜ r ≡ Find·seek (isWanted (now (table .entry)) (w .width) (w .first) (w .«by_parent») (w .parent))
         (λ row. contentAt (now (file .entry)) (now (tokens .entry)) count (wordOf (now (table .entry)) (w .width) row 1)) (now (bytes .entry)) rows 1 ⌝ }
 {
     let mut i: u32 = 0;
     while i < rows {
-        match compare_row(file, tokens, count, table, i as usize, w, bytes) {
+        match compare_row(file, tokens, count, table, i + 1, w, bytes) {
             Match::Outside => {
                 return Found {
                     refusal: 14,
@@ -268,13 +281,17 @@ pub fn find_frame(
     ensures { λ r. ⌜ r ≡ findFrame (lent (now (file .entry)) (now (tokens .entry)) (now (sets .entry)) (now (names .entry)) (now (packets .entry))
         (now (values .entry))) counts set (now (code .entry)) ⌝ }
 {
-    if !counts_fit(tokens, sets, names, packets, values, counts) {
-        return Found {
-            refusal: 14,
-            row: 0,
-        };
-    }
-    if is_row(counts.sets, set) {
+    if row_there(
+        file,
+        tokens,
+        sets,
+        names,
+        packets,
+        values,
+        counts,
+        counts.sets,
+        set,
+    ) {
         let wanted = Wanted {
             width: 3,
             first: 2,
@@ -305,13 +322,17 @@ pub fn find_name(
     ensures { λ r. ⌜ r ≡ findName (lent (now (file .entry)) (now (tokens .entry)) (now (sets .entry)) (now (names .entry)) (now (packets .entry))
         (now (values .entry))) counts set (now (name .entry)) ⌝ }
 {
-    if !counts_fit(tokens, sets, names, packets, values, counts) {
-        return Found {
-            refusal: 14,
-            row: 0,
-        };
-    }
-    if is_row(counts.sets, set) {
+    if row_there(
+        file,
+        tokens,
+        sets,
+        names,
+        packets,
+        values,
+        counts,
+        counts.sets,
+        set,
+    ) {
         let wanted = Wanted {
             width: 4,
             first: set,
@@ -335,24 +356,22 @@ pub fn find_name(
     }
 }
 
-// Whether row `i`, counted from 0, is the value that is asked for: of this name row, with none left before it.
-fn is_last(values: &[u32], i: usize, name: u32, left: u32) -> bool
-    requires { ⌜ (i + 1) * 3 ≤ length (now values) ⌝ }
-    ensures { λ r. ⌜ r ≡ (eqb (wordOf (now (values .entry)) 3 (i + 1) 0) name && eqb left 1) ⌝ }
+// Whether a row is the value that is asked for: of this name row, with none left before it.
+fn is_last(values: &[u32], row: u32, name: u32, left: u32) -> bool
+    ensures { λ r. ⌜ r ≡ (eqb (wordOf (now (values .entry)) 3 row 0) name && eqb left 1) ⌝ }
 {
-    if values[i * 3] == name {
+    if star_rows::word(values, 3, row, 0) == name {
         left == 1
     } else {
         false
     }
 }
 
-// How many are left after row `i`, counted from 0.
-fn left_after(values: &[u32], i: usize, name: u32, left: u32) -> u32
-    requires { ⌜ (i + 1) * 3 ≤ length (now values) ⌝ }
-    ensures { λ r. ⌜ r ≡ cond (eqb (wordOf (now (values .entry)) 3 (i + 1) 0) name) (left - 1) left ⌝ }
+// How many are left after a row.
+fn left_after(values: &[u32], row: u32, name: u32, left: u32) -> u32
+    ensures { λ r. ⌜ r ≡ cond (eqb (wordOf (now (values .entry)) 3 row 0) name) (left - 1) left ⌝ }
 {
-    if values[i * 3] == name {
+    if star_rows::word(values, 3, row, 0) == name {
         if left == 0 { 0 } else { left - 1 }
     } else {
         left
@@ -361,23 +380,21 @@ fn left_after(values: &[u32], i: usize, name: u32, left: u32) -> u32
 
 // The row of the k-th value of a name row, or 0.
 fn value_row(values: &[u32], rows: u32, name: u32, k: u32) -> u32
-    requires { ⌜ rows * 3 ≤ length (now values) ⌝ }
     ensures { λ r. ⌜ r ≡ kth (λ row. eqb (wordOf (now (values .entry)) 3 row 0) name) k rows 1 ⌝ }
-    ensures { λ r. ⌜ r ≤ rows ⌝ }
 {
     let mut i: u32 = 0;
     let mut left = k;
     while i < rows {
-        if is_last(values, i as usize, name, left) {
+        if is_last(values, i + 1, name, left) {
             return i + 1;
         }
-        left = left_after(values, i as usize, name, left);
+        left = left_after(values, i + 1, name, left);
         i += 1;
     }
     0
 }
 
-// The value row that is asked for, or its refusal.
+// The value that is asked for, by its packet and its token row, or its refusal.
 fn locate(
     file: &[u8],
     tokens: &[u32],
@@ -388,36 +405,47 @@ fn locate(
     counts: Counts,
     name: u32,
     k: u32,
-) -> Found
+) -> Located
     ensures { λ r. ⌜ r ≡ Find·locate (lent (now (file .entry)) (now (tokens .entry)) (now (sets .entry)) (now (names .entry)) (now (packets .entry))
         (now (values .entry))) counts name k ⌝ }
 {
-    if !counts_fit(tokens, sets, names, packets, values, counts) {
-        return Found {
+    if !row_there(
+        file,
+        tokens,
+        sets,
+        names,
+        packets,
+        values,
+        counts,
+        counts.names,
+        name,
+    ) {
+        return Located {
             refusal: 14,
-            row: 0,
-        };
-    }
-    if !is_row(counts.names, name) {
-        return Found {
-            refusal: 14,
-            row: 0,
+            packet: 0,
+            token: 0,
         };
     }
     let row = value_row(values, counts.values, name, k);
     if row == 0 {
-        return Found {
+        return Located {
             refusal: 13,
-            row: 0,
+            packet: 0,
+            token: 0,
         };
     }
-    let at = (row as usize - 1) * 3;
-    if has_part(file, tokens, counts.tokens, values[at + 2]) {
-        Found { refusal: 0, row }
+    let token = star_rows::word(values, 3, row, 2);
+    if has_part(file, tokens, counts.tokens, token) {
+        Located {
+            refusal: 0,
+            packet: star_rows::word(values, 3, row, 1),
+            token,
+        }
     } else {
-        Found {
+        Located {
             refusal: 14,
-            row: 0,
+            packet: 0,
+            token: 0,
         }
     }
 }
@@ -438,19 +466,10 @@ pub fn value_at(
         (now (values .entry))) counts name k ⌝ }
 {
     let found = locate(file, tokens, sets, names, packets, values, counts, name, k);
-    if found.refusal != 0 {
-        return Value {
-            refusal: found.refusal,
-            kind: 0,
-            packet: 0,
-        };
-    }
-    let at = (found.row as usize - 1) * 3;
-    let token = (values[at + 2] as usize - 1) * 3;
     Value {
-        refusal: 0,
-        kind: tokens[token],
-        packet: values[at + 1],
+        refusal: found.refusal,
+        kind: star_rows::word(tokens, 3, found.token, 0),
+        packet: found.packet,
     }
 }
 
@@ -472,11 +491,7 @@ pub fn value_part<'a, 'b>(
         (now (packets .entry)) (now (values .entry))) counts name k .start) ⌝ }
 {
     let found = locate(file, tokens, sets, names, packets, values, counts, name, k);
-    if found.refusal != 0 {
-        return &file[0..0];
-    }
-    let at = (found.row as usize - 1) * 3;
-    part(file, tokens, counts.tokens, values[at + 2])
+    part(file, tokens, counts.tokens, found.token)
 }
 
 // Where the k-th value of a name row, k from 1, lies in the file, for those who cannot be handed a part of it.
@@ -495,13 +510,8 @@ pub fn value_span(
         (now (values .entry))) counts name k ⌝ }
 {
     let found = locate(file, tokens, sets, names, packets, values, counts, name, k);
-    if found.refusal != 0 {
-        return Span { start: 0, end: 0 };
-    }
-    let at = (found.row as usize - 1) * 3;
-    let token = (values[at + 2] as usize - 1) * 3;
     Span {
-        start: tokens[token + 1] as usize,
-        end: tokens[token + 2] as usize,
+        start: star_rows::word(tokens, 3, found.token, 1) as usize,
+        end: star_rows::word(tokens, 3, found.token, 2) as usize,
     }
 }

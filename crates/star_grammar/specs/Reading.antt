@@ -3,20 +3,22 @@ use mathlib.Core.Path.{_≡_}
 use mathlib.Core.List.{List, [], _∷_, _++_, map, flatMap, List·Memᴰ}
 use Prim.Native.Nat.{ℕ}
 use Rattle.star_lex.specs.Rules.{Rules, today}
+use Rattle.star_text.specs.Names.{key}
 use Rattle.star_lex.specs.Tokens.{Token, Each}
 use Rattle.star_grammar.specs.Tree.{Entry, item, looped, Member, own, framed, Block, File, fileYield, FileBy}
 
--- no content stands twice in the list
+-- no name or code stands twice in the list
 abbrev pub Distinct : List (List ℕ) → Type 0
 Distinct [] = Unit {0}
 Distinct (x ∷ xs) = (List·Memᴰ x xs → ⊥) × Distinct xs
 
+-- what the names or codes of tokens are compared by
 abbrev pub contents : List Token → List (List ℕ)
-contents ts = map (λ t. t .content) ts
+contents ts = map (λ t. key (t .content)) ts
 
 -- the names of an entry, in order
 unfoldable pub entryNames : Entry → List (List ℕ)
-entryNames (item n v) = n .content ∷ []
+entryNames (item n v) = key (n .content) ∷ []
 entryNames (looped l) = contents (l .names) ++ flatMap contents (l .deeper)
 
 -- a block's own names: those of its frames are not counted
@@ -26,7 +28,7 @@ ownNames (framed f) = []
 
 unfoldable pub frameCodes : Member → List (List ℕ)
 frameCodes (own e) = []
-frameCodes (framed f) = f .heading .content ∷ []
+frameCodes (framed f) = key (f .heading .content) ∷ []
 
 -- names are unique within a frame
 unfoldable pub FrameDistinct : Member → Type 0
@@ -42,7 +44,7 @@ pub record BlockDistinct (b : Block) : Type 0 where
 -- block codes are unique within the file
 pub record FileDistinct (f : File) : Type 0 where
   pub blocks : Each BlockDistinct f
-  pub codes : Distinct (map (λ b. b .heading .content) f)
+  pub codes : Distinct (map (λ b. key (b .heading .content)) f)
 
 -- a reading of a row of tokens: a tree by the rules whose tokens are all of them
 pub record ReadingBy (rules : Rules) (ts : List Token) : Type 0 where

@@ -1,6 +1,9 @@
--- Laws of `Each`: a property of every one of a list goes to its parts and back, one by one.
+-- Laws of `Each`: a property of every one of a list goes to its parts and back, and to each place, one by one.
 use mathlib.Core.List.{List, [], _∷_, _++_}
 use mathlib.Core.Logic.{_↔_}
+use Prim.Native.Nat.{ℕ, zero, suc, _<_}
+use native.Mathlib.Omega.{arith}
+use lib.ListN.{length, getD}
 use Rattle.star_lex.specs.Tokens.{Each}
 
 module _ {ℓ} {A : Type ℓ} (P : A → Type 0) where
@@ -13,3 +16,8 @@ module _ {ℓ} {A : Type ℓ} (P : A → Type 0) where
   pub each-implies : (Q : A → Type 0) → ((x : A) → P x → Q x) → (xs : List A) → Each P xs → Each Q xs
   each-implies Q f [] h = tt
   each-implies Q f (x ∷ xs) h = (f x (h .0), each-implies Q f xs (h .1))
+
+  pub each-at : (xs : List A) (n : ℕ) (d : A) → n < length xs → Each P xs → P (getD xs n d)
+  each-at [] n d h e = absurd (omega arith)
+  each-at (x ∷ xs) zero d h e = e .0
+  each-at (x ∷ xs) (suc n) d h e = each-at xs n d (omega arith) (e .1)

@@ -4,6 +4,7 @@ pub mod Closing
 pub mod Delimited
 pub mod Each
 pub mod FreshName
+pub mod Held
 pub mod Lexemes
 pub mod Lexing
 pub mod Parts

@@ -6,3 +6,4 @@ pub mod WellFormed
 pub mod Found
 pub mod LineEnd
 pub mod Table
+pub mod Holds

@@ -11,12 +11,13 @@ ghost use Rattle.star_rows.specs.Rows.{stored};
 ghost use mathlib.Core.Bool.{true, false, _&&_};
 ghost use lib.Dec.{eqb};
 ghost use Rattle.star_text.specs.Bytes.{mostBytes, Classes, isWhite};
+ghost use denote.Ref.{ptr};
 ghost use Rattle.star_text.specs.Bytes.{Classes, isWhite};
 ghost use Rattle.star_lex.specs.Rules.{today};
 ghost use Rattle.star_lex.specs.Tokens.{Placed, tokenRow, opening};
 ghost use Rattle.star_lex.specs.Split.{refused, accepted, quoted, field, fieldLexeme, quotedLexeme, wordFrom, split as Split·split, lexeme as Split·lexeme};
-ghost use Rattle.star_lex.specs.Found.{tokensIn, answerOf, tableOf, foundAt};
-ghost use Rattle.star_lex.specs.Table.{contentIn};
+ghost use Rattle.star_lex.specs.Found.{tokensIn, answerOf, tableOf, foundAt, isSome};
+ghost use Rattle.star_lex.specs.Table.{contentIn, orEmpty, startIn, firstByte, further};
 
 // The classes of bytes that white space and line ends begin with.
 const BLANK: u8 = 2;
@@ -218,21 +219,47 @@ pub fn read_tokens(file: &[u8], table: &mut [u32]) -> Tokens
     found
 }
 
-// The content of the token in row `n` of table 1, counted from 0: the part of the file that the row spans. It is empty where the table has no such
-// row, and where the span is no part of the file.
-pub fn content<'a>(file: &'a [u8], tokens: &[u32], n: usize) -> &'a [u8]
-    ensures { λ r. ⌜ now r ≡ contentIn (now (file .entry)) (now (tokens .entry)) n ⌝ }
+// Whether table 1 has a row `n`, counted from 0, and that row spans a part of the file.
+pub fn has_content(file: &[u8], tokens: &[u32], n: usize) -> bool
+    ensures { λ r. ⌜ r ≡ isSome (contentIn (now (file .entry)) (now (tokens .entry)) n) ⌝ }
 {
     if tokens.len() / 3 <= n {
+        return false;
+    }
+    let start = tokens[n * 3 + 1];
+    let end = tokens[n * 3 + 2];
+    if end < start {
+        return false;
+    }
+    end as usize <= file.len()
+}
+
+// The content of the token in row `n` of table 1, counted from 0: the part of the file that the row spans. It is empty, at the file's start, where the
+// table has no such row, and where the span is no part of the file.
+pub fn content<'a>(file: &'a [u8], tokens: &[u32], n: usize) -> &'a [u8]
+    ensures { λ r. ⌜ now r ≡ orEmpty (contentIn (now (file .entry)) (now (tokens .entry)) n) ⌝ }
+    ensures { λ r. ⌜ ptr r ≡ further (ptr (file .entry)) (startIn (now (file .entry)) (now (tokens .entry)) n) ⌝ }
+{
+    if !has_content(file, tokens, n) {
         return &file[0..0];
     }
     let start = tokens[n * 3 + 1] as usize;
     let end = tokens[n * 3 + 2] as usize;
-    if end < start {
-        return &file[0..0];
-    }
-    if file.len() < end {
-        return &file[0..0];
-    }
     &file[start..end]
+}
+
+// The first byte of the token in row `n` of table 1, counted from 0; 0 where the table has no such row, and where the row says that less stands before
+// its content than its kind does.
+pub fn first_byte(tokens: &[u32], n: usize) -> u32
+    ensures { λ r. ⌜ r ≡ firstByte (now (tokens .entry)) n ⌝ }
+{
+    if n >= tokens.len() / 3 {
+        return 0;
+    }
+    let start = tokens[n * 3 + 1] as usize;
+    let before = word::lead(tokens[n * 3]);
+    if start < before {
+        return 0;
+    }
+    (start - before) as u32
 }

@@ -10,9 +10,9 @@ use lib.ListN.{length, getD, take, length-append, length-take, length-drop}
 use lib.Seq.{take-suc, take-all}
 use Rattle.star_text.specs.Bytes.{mostBytes}
 use Rattle.star_lex.specs.Tokens.{Token}
-use Rattle.star_lex.specs.Table.{contentIn}
-use Rattle.star_unique.specs.Holds.{Holds, fileTokens, tokenAt}
-use Rattle.star_unique.proofs.Held.{Row, held-row, count-tokens, held-content}
+use Rattle.star_lex.specs.Table.{contentIn, orEmpty}
+use Rattle.star_lex.specs.Holds.{Holds, fileTokens, tokenAt}
+use Rattle.star_lex.proofs.Held.{Row, held-row, count-tokens, held-content}
 use Rattle.star_list.specs.Decimal.{decimal}
 use Rattle.star_list.specs.Listing.{refusedWord, line, spaced, blockCodes, codeLines, refusedLine, countsLine}
 use Rattle.star_list.specs.Put.{codeLine}
@@ -74,7 +74,7 @@ module _ (file words : List ℕ) (count : ℕ) (h : Holds file words count) wher
   pub lines-all : (n : ℕ) → count ≤ n → codeLines (take n (fileTokens file)) ≡ codeLines (fileTokens file)
   lines-all n g = ap codeLines (take-all n (fileTokens file) (omega (arith, count-tokens file words count h)))
 
-  pub next : (n : ℕ) → n < count → (content : List ℕ) → content ≡ contentIn file words n → Next file n (getD words (n * 3) 0) content
+  pub next : (n : ℕ) → n < count → (content : List ℕ) → content ≡ orEmpty (contentIn file words n) → Next file n (getD words (n * 3) 0) content
   next n below content c =
       let e : content ≡ tokenAt file n .content = c ∙ held-content file words count h n below in
       let r : Row file words n = held-row file words count h n below in

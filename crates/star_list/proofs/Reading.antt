@@ -6,7 +6,7 @@ use borrow.Author.Tests.{le-leb, lt-leb}
 use lib.ListN.{length, replicate, length-replicate}
 use Rattle.star_lex.specs.Tokens.{Placed}
 use Rattle.star_grammar.specs.Tables.{Rows}
-use Rattle.star_unique.specs.Holds.{fileTokens}
+use Rattle.star_lex.specs.Holds.{fileTokens}
 use Rattle.star_read.specs.Read.{Sizes, accepted, readOf}
 use Rattle.star_read.specs.Answer.{tables, sizes, answerOf}
 use Rattle.star_read.specs.Known.{ofWords}

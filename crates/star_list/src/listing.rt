@@ -4,7 +4,7 @@ ghost use mathlib.Core.Path.{_≡_};
 ghost use mathlib.Core.List.{[], _∷_, _++_};
 ghost use Prim.Native.Nat.{_+_, _≤_};
 ghost use lib.ListN.{length, take, drop};
-ghost use Rattle.star_unique.specs.Holds.{Holds, fileTokens};
+ghost use Rattle.star_lex.specs.Holds.{Holds, fileTokens};
 ghost use Rattle.star_read.specs.Read.{readOf};
 ghost use Rattle.star_read.specs.Answer.{tables, sizes};
 ghost use Rattle.star_list.specs.Decimal.{decimal};

@@ -15,10 +15,10 @@ use Rattle.star_lex.proofs.Splitting.{row-wide}
 use Rattle.star_lex.proofs.Answers.{tokens-accepted, in-number, in-fits}
 use Rattle.star_grammar.specs.Tables.{Rows, noRows}
 use Rattle.star_grammar.specs.Machine.{run, start}
-use Rattle.star_unique.specs.Holds.{Holds, fileTokens}
+use Rattle.star_lex.specs.Holds.{Holds, fileTokens}
 use Rattle.star_unique.specs.Repeat.{nothing, firstRepeat}
-use Rattle.star_unique.proofs.Comparing.{table-holds}
 use Rattle.star_read.specs.Read.{Outcome, refused, accepted, Sizes, tokensOnly, grammarOf, after, readBy, readOf}
+use Rattle.star_lex.proofs.Held.{table-holds}
 use Rattle.star_read.specs.Answer.{answerOf, Tables, tablesOf, Leaves, judgedOf}
 use Rattle.star_read.specs.declared.Reading.{Reading}
 use Rattle.star_read.proofs.Usable.{today-usable}

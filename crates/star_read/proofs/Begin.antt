@@ -7,7 +7,7 @@ use native.Mathlib.Omega.{arith}
 use lib.ListN.{length}
 use Rattle.star_text.specs.Bytes.{mostBytes}
 use Rattle.star_lex.specs.Rules.{Rules, today}
-use Rattle.star_lex.specs.Rules.{Rules}
+use Rattle.star_text.specs.Names.{key}
 use Rattle.star_lex.specs.Tokens.{Token, Placed, Each}
 use Rattle.star_lex.specs.Split.{tokensBy}
 use Rattle.star_lex.specs.Split as Split
@@ -63,7 +63,7 @@ quiet-ending : (st : State) → Each Quiet (ending st)
 quiet-ending = each-ending Quiet quiet-zero quiet-stop quiet-end
 
 -- what completes a file repeats nothing, where its name is new
-clean-completion : (p : List Token) (st : State) (x : Token) → Clean nothing p → x .kind ≡ 6 → (List·Memᴰ (x .content) (namesIn p) → ⊥)
+clean-completion : (p : List Token) (st : State) (x : Token) → Clean nothing p → x .kind ≡ 6 → (List·Memᴰ (key (x .content)) (namesIn p) → ⊥)
     → Clean nothing (p ++ completion st x)
 clean-completion p start x c k n = quiet-after nothing p (ending start) c (quiet-ending start)
 clean-completion p (within w) x c k n = quiet-after nothing p (ending (within w)) c (quiet-ending (within w))
@@ -112,6 +112,7 @@ walks-shape rules usable p h k =
 
 pub walks-begins : (rules : Rules) → Usable rules → (p : List Token) → Each (FormedBy rules) p → length p ≤ mostBytes → Walks rules start p noRows
     → Clean nothing p → Begins rules p
+unfolding key
 walks-begins rules usable p h l k c =
     let n : (x : List ℕ) × FormedBy rules (record { kind = 6; content = x }) × (List·Memᴰ x (namesIn p) → ⊥)
     = fresh-name-of rules 21 (namesIn p) (omega arith) (omega (arith, usable .long-names)) (omega (arith, names-count p)) in

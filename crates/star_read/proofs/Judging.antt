@@ -4,7 +4,6 @@ use mathlib.Core.Path.{_≡_, refl, sym, _∙_, ap}
 use mathlib.Core.Bool.{Bool, true, false, cond}
 use mathlib.Core.List.{List, [], _∷_}
 use Prim.Native.Nat.{ℕ, zero, suc, _+_, _*_, _≤_, _<_}
-use native.Mathlib.Nat.{add-zero}
 use native.Mathlib.Omega.{arith}
 use borrow.Author.Tests.{lt-ltb, le-ltb}
 use lib.ListN.{length, getD}
@@ -12,19 +11,16 @@ use Rattle.star_rows.proofs.Held.{held-word}
 use Rattle.star_lex.specs.Rules.{Rules}
 use Rattle.star_lex.specs.Tokens.{Token, Placed, opening, tokenRow}
 use Rattle.star_lex.specs.Split.{placed, tokensOf}
-use Rattle.star_lex.proofs.Splitting.{row-wide}
 use Rattle.star_grammar.specs.Tables.{Rows}
 use Rattle.star_grammar.specs.Machine.{State, Run, bad, good, run}
 use Rattle.star_parse.specs.declared.Parsed.{Parsed}
 use Rattle.star_grammar.proofs.Walking.{Halts, bad-halts}
 use Rattle.star_grammar.proofs.Refusals.{Refusal, refusal, EndRefusal, end-refusal}
-use Rattle.star_unique.specs.Holds.{Holds}
+use Rattle.star_lex.specs.Holds.{Holds}
+use Rattle.star_lex.specs.Table.{firstByte}
+use Rattle.star_lex.proofs.Held.{nowhere, held-first}
 use Rattle.star_read.specs.Read.{Outcome, accepted, Sizes, placeOf, decide, fitting}
 use Rattle.star_read.specs.Answer.{judgedOf, roomOf, words, Ran}
-
--- no token, which stands where there is none
-abbrev nowhere : Placed
-nowhere = record { at = 0; token = record { kind = 0; content = [] } }
 
 place-in : (size : ℕ) (ps : List Placed) (n : ℕ) → n < length ps → placeOf size ps n ≡ getD ps n nowhere .at
 unfolding placeOf
@@ -38,18 +34,11 @@ place-over size [] n h = refl
 place-over size (p ∷ ps) zero h = absurd (omega arith)
 place-over size (p ∷ ps) (suc n) h = place-over size ps n (omega arith)
 
--- a token's content begins behind its first byte and what stands before the content
-pub first-byte : (file words : List ℕ) (count : ℕ) → Holds file words count → (n : ℕ) → n < count
-    → getD words (n * 3 + 1) 0 ≡ placeOf (length file) (placed (tokensOf file)) n + length (opening (getD words (n * 3) 0))
-unfolding tokenRow
-first-byte file words count h n below =
-    let ps : List Placed = placed (tokensOf file) in
-    let w : (k : ℕ) → k < 3 → getD words (n * 3 + k) 0 ≡ getD (tokenRow (getD ps n nowhere)) k 0
-    = λ k j. ap (λ ws. getD ws (n * 3 + k) 0) (h .rows) ∙ held-word 3 tokenRow row-wide nowhere ps (length words) n k (omega (arith, h .count-is)) j in
-    let kind : getD words (n * 3) 0 ≡ getD ps n nowhere .token .kind = ap (λ i. getD words i 0) (sym (add-zero (n * 3))) ∙ w 0 (omega arith) in
-    w 1 (omega arith)
-    ∙ ap (λ a. a + length (opening (getD ps n nowhere .token .kind))) (sym (place-in (length file) ps n (omega (arith, h .count-is))))
-    ∙ ap (λ k. placeOf (length file) ps n + length (opening k)) (sym kind)
+-- the first byte of a token of the file
+pub place-held : (file words : List ℕ) (count : ℕ) → Holds file words count → (n : ℕ) → n < count
+    → firstByte words n ≡ placeOf (length file) (placed (tokensOf file)) n
+place-held file words count h n below =
+    held-first file words count h n below ∙ sym (place-in (length file) (placed (tokensOf file)) n (omega (arith, h .count-is)))
 
 refusal-number : {rules : Rules} {st : State} {k : _} {r : Rows} {n : ℕ} → Refusal rules st k r n → n ≡ 0 → ⊥
 refusal-number (Refusal.global e) z = omega arith

@@ -19,9 +19,9 @@ use Rattle.star_parse.specs.Parsed.{FourTables, Answers, Accepted, kindTokens, 
 use Rattle.star_parse.specs.declared.Parsed.{Parsed}
 use Rattle.star_grammar.proofs.Widths.{set-wide, name-wide, packet-wide, value-wide}
 use Rattle.star_parse.proofs.RunKinds.{run-holding, rows-run}
-use Rattle.star_unique.specs.Holds.{Holds, fileTokens}
+use Rattle.star_lex.specs.Holds.{Holds, fileTokens}
 use Rattle.star_unique.specs.Repeat.{nothing, firstRepeat}
-use Rattle.star_unique.proofs.Held.{count-small}
+use Rattle.star_lex.proofs.Held.{count-small}
 use Rattle.star_read.specs.Read.{Outcome, refused, accepted, Sizes, decide, fitting, grammarOf}
 use Rattle.star_read.specs.Demands.{Room}
 use Rattle.star_read.specs.Answer.{answerOf, tables, tablesOf, judgedOf, words, Ran, ClearedBehind, Leaves, Tables}

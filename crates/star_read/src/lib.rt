@@ -5,7 +5,7 @@ ghost use Rattle.star_lex.specs.Rules.{today};
 ghost use Rattle.star_lex.specs.Split.{placed, tokensOf};
 ghost use Rattle.star_grammar.specs.Tables.{noRows};
 ghost use Rattle.star_grammar.specs.Machine.{run, start};
-ghost use Rattle.star_unique.specs.Holds.{Holds, fileTokens};
+ghost use Rattle.star_lex.specs.Holds.{Holds, fileTokens};
 ghost use Rattle.star_unique.specs.Repeat.{nothing, firstRepeat};
 ghost use Rattle.star_read.specs.Read.{refused, placeOf, fitting, grammarOf, readOf};
 ghost use Rattle.star_read.specs.Answer.{answerOf, tables, sizes, judgedOf, words, roomOf, Ran, Leaves, ClearedBehind};
@@ -36,9 +36,7 @@ fn place_of(file: &[u8], tokens: &[u32], count: usize, before: usize) -> u32
     ensures { λ r. ⌜ r ≡ placeOf (length (now (file .entry))) (placed (tokensOf (now (file .entry)))) before ⌝ }
 {
     if before < count {
-        let at = before * 3;
-        let kind = tokens[at];
-        tokens[at + 1] - star_lex::word::lead(kind) as u32
+        star_lex::first_byte(tokens, before)
     } else {
         file.len() as u32
     }
@@ -48,25 +46,25 @@ fn place_of(file: &[u8], tokens: &[u32], count: usize, before: usize) -> u32
 fn room(rows: Parsed, sets: usize, names: usize, packets: usize, values: usize) -> Judged
     ensures { λ r. ⌜ r ≡ roomOf (rows .sets) (rows .names) (rows .packets) (rows .values) sets names packets values ⌝ }
 {
-    if sets / star_rows::SET_WIDTH < rows.sets as usize {
+    if !star_rows::fits(rows.sets, star_rows::SET_WIDTH, sets) {
         return Judged {
             refusal: 7,
             place: 2,
         };
     }
-    if names / star_rows::NAME_WIDTH < rows.names as usize {
+    if !star_rows::fits(rows.names, star_rows::NAME_WIDTH, names) {
         return Judged {
             refusal: 7,
             place: 3,
         };
     }
-    if packets / star_rows::PACKET_WIDTH < rows.packets as usize {
+    if !star_rows::fits(rows.packets, star_rows::PACKET_WIDTH, packets) {
         return Judged {
             refusal: 7,
             place: 4,
         };
     }
-    if values / star_rows::VALUE_WIDTH < rows.values as usize {
+    if !star_rows::fits(rows.values, star_rows::VALUE_WIDTH, values) {
         return Judged {
             refusal: 7,
             place: 5,
@@ -154,10 +152,16 @@ fn clear_behind(
     ensures { λ _. ⌜ ClearedBehind rows (four (now (sets .entry)) (now (names .entry)) (now (packets .entry)) (now (values .entry)))
         (four (now (sets .exit)) (now (names .exit)) (now (packets .exit)) (now (values .exit))) ⌝ }
 {
-    star_rows::clear_from(sets, rows.sets as usize * star_rows::SET_WIDTH);
-    star_rows::clear_from(names, rows.names as usize * star_rows::NAME_WIDTH);
-    star_rows::clear_from(packets, rows.packets as usize * star_rows::PACKET_WIDTH);
-    star_rows::clear_from(values, rows.values as usize * star_rows::VALUE_WIDTH);
+    star_rows::clear_from(sets, rows.sets as usize * star_rows::SET_WIDTH as usize);
+    star_rows::clear_from(names, rows.names as usize * star_rows::NAME_WIDTH as usize);
+    star_rows::clear_from(
+        packets,
+        rows.packets as usize * star_rows::PACKET_WIDTH as usize,
+    );
+    star_rows::clear_from(
+        values,
+        rows.values as usize * star_rows::VALUE_WIDTH as usize,
+    );
 }
 
 // Reads the rows of a file whose tokens table 1 holds; `taken` of them stand before the first that is taken.

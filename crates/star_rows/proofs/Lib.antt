@@ -1,3 +1,4 @@
 pub mod Clear
 pub mod Held
 pub mod Stored
+pub mod Words

@@ -1,9 +1,9 @@
 -- Rows of words in a table: specification 7.1 and 9.2.
-use mathlib.Core.Bool.{cond}
+use mathlib.Core.Bool.{Bool, cond}
 use mathlib.Core.List.{List, _++_, flatMap}
-use Prim.Native.Nat.{ℕ, _+_, _-_, _*_, _/_}
-use lib.Dec.{ltb}
-use lib.ListN.{length, take, drop, replicate}
+use Prim.Native.Nat.{ℕ, zero, suc, _+_, _-_, _*_, _/_}
+use lib.Dec.{leb, ltb}
+use lib.ListN.{length, getD, take, drop, replicate}
 use lib.Seq.{sets}
 
 -- a table of that many words that holds these rows: words after the last row are 0
@@ -23,3 +23,12 @@ unfoldable pub stored {ℓ} : {A : Type ℓ} → ℕ → (A → List ℕ) → Li
 stored width row xs words =
     let first : List ℕ = flatMap row (take (length words / width) xs) in
     first ++ drop (length first) words
+
+-- a word of a row of a table, rows counted from 1 and words from 0; 0 where there is none
+unfoldable pub wordOf : List ℕ → (width row word : ℕ) → ℕ
+wordOf table width zero word = 0
+wordOf table width (suc n) word = getD table (n * width + word) 0
+
+-- a table of so many words has room for so many rows of a width
+abbrev pub hasRoom : (rows width words : ℕ) → Bool
+hasRoom rows width words = leb (rows * width) words

@@ -1,18 +1,18 @@
 // Rows of a table: a lent slice of words holds rows of one width, one after the other.
 ghost use mathlib.Core.Path.{_≡_};
 ghost use mathlib.Core.List.{[], _∷_};
-ghost use Rattle.star_rows.specs.Rows.{putRow, clearedFrom};
+ghost use Rattle.star_rows.specs.Rows.{putRow, clearedFrom, wordOf, hasRoom};
 
 // The words of a row of each of the five tables.
-pub const TOKEN_WIDTH: usize = 3;
+pub const TOKEN_WIDTH: u32 = 3;
 
-pub const SET_WIDTH: usize = 3;
+pub const SET_WIDTH: u32 = 3;
 
-pub const NAME_WIDTH: usize = 4;
+pub const NAME_WIDTH: u32 = 4;
 
-pub const PACKET_WIDTH: usize = 3;
+pub const PACKET_WIDTH: u32 = 3;
 
-pub const VALUE_WIDTH: usize = 3;
+pub const VALUE_WIDTH: u32 = 3;
 
 // Writes a row of three words as row `n` of the table, counted from 0, if it fits.
 pub fn put3(table: &mut [u32], n: usize, a: u32, b: u32, c: u32)
@@ -48,4 +48,22 @@ pub fn clear_from(table: &mut [u32], from: usize)
         table[at] = 0;
         at += 1;
     }
+}
+
+// Word `i`, counted from 0, of row `row` of a table, counted from 1; 0 where there is none.
+pub fn word(table: &[u32], width: u32, row: u32, i: u32) -> u32
+    ensures { λ r. ⌜ r ≡ wordOf (now (table .entry)) width row i ⌝ }
+{
+    if row == 0 {
+        return 0;
+    }
+    let at = (row - 1) as usize * width as usize + i as usize;
+    if at < table.len() { table[at] } else { 0 }
+}
+
+// Whether a table of so many words has room for so many rows of a width.
+pub fn fits(rows: u32, width: u32, words: usize) -> bool
+    ensures { λ r. ⌜ r ≡ hasRoom rows width words ⌝ }
+{
+    rows as usize * width as usize <= words
 }

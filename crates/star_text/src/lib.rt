@@ -4,6 +4,7 @@ ghost use mathlib.Core.Bool.{true};
 ghost use Prim.Native.Nat.{ℕ, _+_, _≤_, _<_};
 ghost use lib.ListN.{length, getD, drop};
 ghost use Rattle.star_text.specs.Bytes.{Classes, classIn, allowedIn, terminateIn, whiteIn, belowIn, firstRefusedIn, run};
+ghost use Rattle.star_text.specs.Names.{same as Names·same};
 
 // The most bytes that a file may have.
 pub const MOST_BYTES: usize = 1048576;
@@ -410,4 +411,21 @@ pub fn run_end(classes: &[u8; 256], file: &[u8], from: usize, class: u8) -> usiz
         }
     }
     at
+}
+
+// Whether two names or codes are equal: none are where the lengths differ, and else the first pair of bytes that differs decides.
+pub fn same(a: &[u8], b: &[u8]) -> bool
+    ensures { λ r. ⌜ r ≡ Names·same (now (a .entry)) (now (b .entry)) ⌝ }
+{
+    if a.len() != b.len() {
+        return false;
+    }
+    let mut i = 0;
+    while i < a.len() {
+        if a[i] != b[i] {
+            return false;
+        }
+        i += 1;
+    }
+    true
 }

@@ -9,9 +9,9 @@ use lib.Dec.{eqb, leb}
 use borrow.Author.Tests.{eqb-true, eq-eqb, ne-eqb, le-leb, lt-leb}
 use Rattle.star_lex.specs.Tokens.{Token}
 use Rattle.star_lex.proofs.Cases.{impossible}
-use Rattle.star_unique.specs.Repeat.{same}
+use Rattle.star_text.specs.Names.{key, same}
 use Rattle.star_unique.specs.Chain.{sortAt, mix, bucketOf, bucketAt, latest, earlier}
-use Rattle.star_unique.proofs.Distinct.{same-true}
+use Rattle.star_text.proofs.Names.{same-true}
 
 module _ (f : ℕ → ℕ) (b : ℕ) where
   pub latest-within : (n : ℕ) → latest f b n ≤ n
@@ -49,7 +49,7 @@ mix-below h (c ∷ x) k = mix-below ((h * 2685 + c) % 4096) x (mod-lt (h * 2685 
 
 pub bucket-below : (sort : ℕ) (x : List ℕ) → bucketOf sort x < 4096
 unfolding bucketOf
-bucket-below sort x = mix-below (sort % 4096) x (mod-lt sort (omega arith))
+bucket-below sort x = mix-below (sort % 4096) (key x) (mod-lt sort (omega arith))
 
 pub both : (s t : Bool) → (s && t) ≡ true → (s ≡ true) × (t ≡ true)
 both true true e = (refl, refl)
@@ -95,7 +95,7 @@ module _ (at : ℕ → Token) (sort : ℕ) (x : List ℕ) (floor : ℕ) where
 
   -- what is not in the bucket is not equal
   pub earlier-last : (sort ≡ 0 → ⊥) → (n : ℕ) → earlier at sort x floor (latest (bucketAt at) (bucketOf sort x) n) ≡ earlier at sort x floor n
-  unfolding latest
+  unfolding latest bucketOf
   earlier-last some zero = refl
   earlier-last some (suc m) = go (eqb (bucketAt at m) (bucketOf sort x)) refl (earlier-last some m)
     where
@@ -104,7 +104,7 @@ module _ (at : ℕ → Token) (sort : ℕ) (x : List ℕ) (floor : ℕ) where
       differs true e d =
           let q : (eqb (sortAt at m) sort ≡ true) × (same x (at m .content) ≡ true) = both _ _ e in
           let s : sortAt at m ≡ sort = eqb-true _ _ (q .0) in
-          let c : x ≡ at m .content = same-true _ _ (q .1) in
+          let c : key x ≡ key (at m .content) = same-true _ _ (q .1) in
           absurd (d (bucket-named at m (λ z. some (sym s ∙ z)) ∙ rw (s, ← c)))
 
       go : (t : Bool) → eqb (bucketAt at m) (bucketOf sort x) ≡ t

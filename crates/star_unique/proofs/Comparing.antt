@@ -1,36 +1,17 @@
--- What reading the tokens of a file answers, by its split; and table 1 of an accepted file.
+-- What reading the tokens of a file answers, by its split.
 use mathlib.Core.Path.{_≡_, refl, sym, _∙_, ap}
-use mathlib.Core.List.{List, map}
+use mathlib.Core.List.{List}
 use Prim.Native.Nat.{ℕ}
 use lib.ListN.{length}
 use Rattle.star_lex.specs.Tokens.{Placed}
-use Rattle.star_lex.specs.Split.{Split, refused, accepted, tokensOf, placed}
-use Rattle.star_lex.specs.Found.{tokensIn, tableOf}
-use Rattle.star_lex.proofs.Answers.{tokens-accepted, in-number, in-fits}
+use Rattle.star_lex.specs.Split.{Split, refused, accepted}
+use Rattle.star_lex.specs.Found.{tokensIn}
+use Rattle.star_lex.proofs.Answers.{in-number}
+use Rattle.star_lex.proofs.Held.{accepted-tokens}
 use Rattle.star_unique.specs.Repeat.{nothing, firstRepeat}
-use Rattle.star_unique.specs.Holds.{Holds, fileTokens}
+use Rattle.star_lex.specs.Holds.{fileTokens}
 use Rattle.star_unique.specs.Compared.{comparedOf}
 use Rattle.star_unique.specs.declared.Compared.{Compared}
-
-module _ (file : List ℕ) (words : ℕ) (ps : List Placed) (e : tokensIn file words ≡ accepted ps) where
-  -- the tokens of an accepted file
-  pub accepted-tokens : fileTokens file ≡ map (λ p. p .token) ps
-  unfolding placed
-  accepted-tokens = ap (λ s. map (λ p. p .token) (placed s)) (tokens-accepted file words ps e)
-
-  -- table 1 holds them
-  pub table-holds : (table : List ℕ) (count : ℕ) → count ≡ length ps → length table ≡ words → table ≡ tableOf (tokensIn file words) words
-      → Holds file table count
-  unfolding tableOf placed
-  table-holds table count c l t =
-      let p : placed (tokensOf file) ≡ ps = ap placed (tokens-accepted file words ps e) in
-      let f = in-fits file words ps e in
-      record {
-        small = f .0;
-        rows = t ∙ ap (λ q. tableOf q words) e ∙ rw (p, l);
-        room = rw (p, l) (f .1);
-        count-is = c ∙ ap length (sym p);
-      }
 
 -- an answer tells the split
 pub compared-refused : (s : Split) (r : Compared) → r ≡ comparedOf s → (r .refusal ≡ 0 → ⊥) → s ≡ refused (r .refusal) (r .place)

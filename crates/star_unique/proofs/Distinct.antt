@@ -1,51 +1,29 @@
--- `same` decides whether two contents are equal, `among` whether a content is in a list: by going through both lists. A list with one more
--- content is distinct exactly when the list is and the content is not in it.
+-- `among` decides whether a key is in a list: by going through it. A list with one more
+-- key is distinct exactly when the list is and the content is not in it.
 use mathlib.Core.Path.{_≡_, refl, sym}
-use mathlib.Core.Bool.{Bool, true, false, _&&_, _||_, or-true}
+use mathlib.Core.Bool.{Bool, true, false, _||_, or-true}
 use mathlib.Core.List.{List, [], _∷_, _++_, List·Memᴰ, List·Memᴰ·head, List·Memᴰ·tail, List·Memᴰ·not-nil, List·Memᴰ·cases-cons, List·Memᴰ·append-cases, List·Memᴰ·eq-of-singleton, Memᴰ·append-left, Memᴰ·append-right}
 use mathlib.Core.Logic.{_↔_, ⊎-elim}
 use Prim.Native.Nat.{ℕ}
-use borrow.Author.Tests.{eqb-true, eq-eqb}
-use lib.Dec.{eqb}
+use Rattle.star_text.specs.Names.{equal}
+use Rattle.star_text.proofs.Names.{equal-true, equal-is}
 use Rattle.star_lex.proofs.Cases.{impossible}
 use Rattle.star_grammar.specs.Reading.{Distinct}
-use Rattle.star_unique.specs.Repeat.{same, among}
-
-pub same-true : (xs ys : List ℕ) → same xs ys ≡ true → xs ≡ ys
-unfolding same
-same-true [] [] e = refl
-same-true [] (b ∷ bs) e = impossible cc
-same-true (a ∷ xs) [] e = impossible cc
-same-true (a ∷ xs) (b ∷ bs) e = go (eqb a b) refl e (same-true xs bs)
-  where
-    go : (t : Bool) → eqb a b ≡ t → (t && same xs bs) ≡ true → (same xs bs ≡ true → xs ≡ bs) → a ∷ xs ≡ b ∷ bs
-    go true d h rest = cc (eqb-true a b d, rest h)
-    go false d h rest = impossible cc
-
-pub same-refl : (xs : List ℕ) → same xs xs ≡ true
-unfolding same
-same-refl [] = refl
-same-refl (a ∷ xs) = rw (eq-eqb a a refl, same-refl xs)
-
-pub same-equal : (xs ys : List ℕ) → xs ≡ ys → same xs ys ≡ true
-same-equal xs ys e = rw e (same-refl ys)
-
-pub same-false : (xs ys : List ℕ) → same xs ys ≡ false → xs ≡ ys → ⊥
-same-false xs ys e d = impossible (cc (same-equal xs ys d))
+use Rattle.star_unique.specs.Repeat.{among}
 
 pub among-true : (x : List ℕ) (ys : List (List ℕ)) → among x ys ≡ true → List·Memᴰ x ys
 unfolding among
 among-true x [] e = impossible cc
-among-true x (y ∷ ys) e = go (same x y) refl e (among-true x ys)
+among-true x (y ∷ ys) e = go (equal x y) refl e (among-true x ys)
   where
-    go : (t : Bool) → same x y ≡ t → (t || among x ys) ≡ true → (among x ys ≡ true → List·Memᴰ x ys) → List·Memᴰ x (y ∷ ys)
-    go true d h rest = List·Memᴰ·head (same-true x y d)
+    go : (t : Bool) → equal x y ≡ t → (t || among x ys) ≡ true → (among x ys ≡ true → List·Memᴰ x ys) → List·Memᴰ x (y ∷ ys)
+    go true d h rest = List·Memᴰ·head (equal-true x y d)
     go false d h rest = List·Memᴰ·tail (rest h)
 
 pub among-member : {x : List ℕ} {ys : List (List ℕ)} → List·Memᴰ x ys → among x ys ≡ true
 unfolding among
-among-member {x} (List·Memᴰ·head {x = y} e) = rw (same-equal x y e)
-among-member {x} (List·Memᴰ·tail {x = y} m) = rw (among-member m) (or-true (same x y))
+among-member {x} (List·Memᴰ·head {x = y} e) = rw (equal-is x y e)
+among-member {x} (List·Memᴰ·tail {x = y} m) = rw (among-member m) (or-true (equal x y))
 
 pub among-false : (x : List ℕ) (ys : List (List ℕ)) → among x ys ≡ false → List·Memᴰ x ys → ⊥
 among-false x ys e m = impossible (cc (among-member m))

@@ -1,4 +1,4 @@
--- A name that is none of those before it, and tokens that are no name or code, repeat nothing: what a set takes are contents of names that
+-- A name that is none of those before it, and tokens that are no name or code, repeat nothing: what a set takes are keys of names that
 -- came before.
 use mathlib.Core.Path.{_≡_, refl}
 use mathlib.Core.Bool.{Bool, true, false, cond}
@@ -8,6 +8,7 @@ use Prim.Native.Nat.{ℕ}
 use native.Mathlib.Omega.{arith}
 use borrow.Author.Tests.{ne-eqb}
 use lib.Dec.{eqb}
+use Rattle.star_text.specs.Names.{key}
 use Rattle.star_lex.specs.Tokens.{Token, Each}
 use Rattle.star_grammar.specs.Tree.{frameEnd, stop, IsValue}
 use Rattle.star_unique.specs.Repeat.{Taken, nothing, takes, takeBlock, takeFrame, endFrame, takeName}
@@ -46,7 +47,7 @@ unfolding namesIn
 quiet-names [] h = refl
 quiet-names (t ∷ ts) h = rw (ne-eqb (t .kind) 6 (h .0 .no-name)) (quiet-names ts (h .1))
 
--- a content that no set has as a name
+-- a key that no set has as a name
 record Fresh (x : List ℕ) (s : Taken) : Type 0 where
   names : List·Memᴰ x (s .names) → ⊥
   inner : List·Memᴰ x (s .inner) → ⊥
@@ -62,12 +63,12 @@ module _ (x : List ℕ) where
   absent-more : (ys : List (List ℕ)) (y : List ℕ) → (List·Memᴰ x ys → ⊥) → (x ≡ y → ⊥) → List·Memᴰ x (ys ++ (y ∷ [])) → ⊥
   absent-more ys y f g m = ⊎-elim f (λ k. g (List·Memᴰ·eq-of-singleton k)) (List·Memᴰ·append-cases ys m)
 
-  name-fresh : (s : Taken) (t : Token) → Fresh x s → (x ≡ t .content → ⊥) → Fresh x (takeName s t)
+  name-fresh : (s : Taken) (t : Token) → Fresh x s → (x ≡ key (t .content) → ⊥) → Fresh x (takeName s t)
   unfolding takeName
   name-fresh s t h n =
       cond-holds (Fresh x) (s .inFrame) _ _
-      (record { names = h .names; inner = absent-more (s .inner) (t .content) (h .inner) n })
-      (record { names = absent-more (s .names) (t .content) (h .names) n; inner = h .inner })
+      (record { names = h .names; inner = absent-more (s .inner) (key (t .content)) (h .inner) n })
+      (record { names = absent-more (s .names) (key (t .content)) (h .names) n; inner = h .inner })
 
   -- another token
   takes-fresh : (s : Taken) (t : Token) (ts : List Token) → Fresh x s → (List·Memᴰ x (namesIn (t ∷ ts)) → ⊥) → Fresh x (takes s t)
@@ -77,7 +78,7 @@ module _ (x : List ℕ) where
       (cond-holds (Fresh x) (eqb (t .kind) 2) _ _ (record { names = h .names; inner = List·Memᴰ·not-nil })
       (cond-holds (Fresh x) (eqb (t .kind) 3) _ _ (record { names = h .names; inner = List·Memᴰ·not-nil }) (go (eqb (t .kind) 6) n)))
     where
-      go : (b : Bool) → (List·Memᴰ x (cond b (t .content ∷ namesIn ts) (namesIn ts)) → ⊥) → Fresh x (cond b (takeName s t) s)
+      go : (b : Bool) → (List·Memᴰ x (cond b (key (t .content) ∷ namesIn ts) (namesIn ts)) → ⊥) → Fresh x (cond b (takeName s t) s)
       go true m = name-fresh s t h (λ e. m (List·Memᴰ·head e))
       go false m = h
 
@@ -94,19 +95,19 @@ unfolding nothing
 nothing-fresh x = record { names = List·Memᴰ·not-nil; inner = List·Memᴰ·not-nil }
 
 -- after tokens that repeat nothing, a name that is none of theirs, among tokens that are no name or code
-pub fresh-after : (p a b : List Token) (x : Token) → Clean nothing p → x .kind ≡ 6 → (List·Memᴰ (x .content) (namesIn p) → ⊥)
+pub fresh-after : (p a b : List Token) (x : Token) → Clean nothing p → x .kind ≡ 6 → (List·Memᴰ (key (x .content)) (namesIn p) → ⊥)
     → Each Quiet a → Each Quiet b → Clean nothing (p ++ (a ++ (x ∷ b)))
 fresh-after p a b x h e n f g =
     let s : Taken = takesAll nothing p in
-    let k : Fresh (x .content) (takesAll s a)
-    = takes-all-fresh (x .content) s a (takes-all-fresh (x .content) nothing p (nothing-fresh (x .content)) n)
+    let k : Fresh (key (x .content)) (takesAll s a)
+    = takes-all-fresh (key (x .content)) s a (takes-all-fresh (key (x .content)) nothing p (nothing-fresh (key (x .content))) n)
     (rw (quiet-names a f) List·Memᴰ·not-nil) in
     clean-append nothing p (a ++ (x ∷ b)) .1 (
       h,
       clean-append s a (x ∷ b) .1 (
         quiet-clean s a f,
         (
-          rw (name-taken (takesAll s a) x e) (among-absent (x .content) (opened (takesAll s a)) (opened-fresh (x .content) (takesAll s a) k)),
+          rw (name-taken (takesAll s a) x e) (among-absent (key (x .content)) (opened (takesAll s a)) (opened-fresh (key (x .content)) (takesAll s a) k)),
           quiet-clean (takes (takesAll s a) x) b g,
         ),
       ),

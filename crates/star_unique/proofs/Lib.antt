@@ -4,11 +4,9 @@ pub mod Comparing
 pub mod Distinct
 pub mod First
 pub mod Fresh
-pub mod Held
 pub mod Marking
 pub mod Marks
 pub mod Names
 pub mod Repeats
-pub mod SameFrom
 pub mod Scopes
 pub mod Unmarking

@@ -12,12 +12,12 @@ use lib.Seq.{getD-set-same, getD-set-other, take-all}
 use Rattle.star_lex.specs.Tokens.{Token}
 use Rattle.star_unique.specs.Repeat.{nothing, isTaken, firstRepeat}
 use Rattle.star_unique.specs.Seen.{takesAll}
-use Rattle.star_unique.specs.Holds.{Holds, fileTokens, tokenAt}
+use Rattle.star_lex.specs.Holds.{Holds, fileTokens, tokenAt}
 use Rattle.star_unique.specs.Chain.{tableOf, sortOf, sortAt, passed, scopeAt, floorOf, bucketOf, bucketAt, latest, markAt, earlier, takenAt}
 use Rattle.star_unique.specs.Marked.{Spans, Marked, Heads, Visited}
 use Rattle.star_unique.specs.declared.Scope.{Scope}
-use Rattle.star_unique.proofs.Clean.{Clean, clean-next, repeat-here, clean-repeat}
-use Rattle.star_unique.proofs.Held.{held-row, count-tokens, takes-token}
+use Rattle.star_unique.proofs.Clean.{Clean, takes-next, clean-next, repeat-here, clean-repeat}
+use Rattle.star_lex.proofs.Held.{held-row, count-tokens}
 use Rattle.star_unique.proofs.Scopes.{Agrees, agrees-nothing, agrees-next, taken-is}
 use Rattle.star_unique.proofs.Chain.{latest-within, bucket-below, bucket-named, bucket-none}
 use Rattle.star_unique.proofs.Marks.{holds-spans, sort-below, mark-is}
@@ -185,7 +185,7 @@ unfolding scopeAt
 agrees-at file words count h x zero below = agrees-nothing (tokenAt file) x
 agrees-at file words count h x (suc n) below =
     subst (λ s. Agrees (tokenAt file) x s (passed (scopeAt (tokenAt file) n) (tokenAt file n .kind) (suc n)) (suc n))
-    (sym (ap (λ i. takesAll nothing (take i (fileTokens file))) (sym (add-one n)) ∙ takes-token file words count h nothing n (omega arith)))
+    (sym (ap (λ i. takesAll nothing (take i (fileTokens file))) (sym (add-one n)) ∙ takes-next nothing (fileTokens file) n _ (omega (arith, count-tokens file words count h))))
     (agrees-next (tokenAt file) x _ _ n (agrees-at file words count h x n (omega arith)) refl)
 
 -- a token is taken, as the marks say

@@ -11,11 +11,11 @@ use lib.ListN.{length, getD, take, drop, drop-of-length-le}
 use lib.Seq.{drop-cons}
 use Rattle.star_text.specs.Bytes.{mostBytes}
 use Rattle.star_lex.specs.Tokens.{Token}
-use Rattle.star_unique.specs.Repeat.{same}
-use Rattle.star_unique.specs.Holds.{Holds, tokenAt}
+use Rattle.star_text.specs.Names.{same}
+use Rattle.star_lex.specs.Holds.{Holds, tokenAt}
 use Rattle.star_unique.specs.Chain.{tableOf, sortOf, sortAt, scopeAt, mix, bucketOf, bucketAt, latest, markAt, earlier}
 use Rattle.star_unique.specs.Marked.{Spans, Marked}
-use Rattle.star_unique.proofs.Held.{Row, held-row}
+use Rattle.star_lex.proofs.Held.{Row, held-row}
 use Rattle.star_unique.proofs.Chain.{latest-within, latest-again, latest-in, bucket-below, bucket-sort, earlier-floor, earlier-other, earlier-here, earlier-last}
 
 module _ (h : ℕ) (x : List ℕ) (i : ℕ) where

@@ -8,6 +8,7 @@ use Prim.Native.Nat.{ℕ, zero, suc}
 use native.Mathlib.Omega.{arith}
 use lib.ListN.{length, replicate}
 use lib.Seq.{append-snoc}
+use Rattle.star_text.specs.Names.{key}
 use Rattle.star_lex.specs.Tokens.{Token, Each}
 use Rattle.star_grammar.specs.Tree.{frameEnd, loopStart, stop, IsName, IsValue, Inner, Packet, innerYield, packetYield, InnerWhole, PacketWhole, loopYield, Entry, item, looped, entryYield, EntryWhole, frameYield, Member, own, framed, memberYield, MemberWhole, Block, blockYield, BlockWhole, File, fileYield, FileWhole}
 use Rattle.star_grammar.specs.Reading.{Distinct, contents, entryNames, ownNames, frameCodes, FrameDistinct, BlockDistinct, FileDistinct}
@@ -127,11 +128,11 @@ module _ (bs fs : List (List ℕ)) {ts : List Token} {xs : List (List ℕ)} (n :
       rw (← (n .names)) (λ c. e .0 (tt, c), λ d. e .1 d .1)
 
 module _ (bs : List (List ℕ)) where
-  frame-start : (fs ns : List (List ℕ)) (t : Token) → t .kind ≡ 2 → takes (inBlock bs fs ns) t ≡ inFrame bs (fs ++ (t .content ∷ [])) ns []
+  frame-start : (fs ns : List (List ℕ)) (t : Token) → t .kind ≡ 2 → takes (inBlock bs fs ns) t ≡ inFrame bs (fs ++ (key (t .content) ∷ [])) ns []
   unfolding takes takeFrame
   frame-start fs ns t e = rw e
 
-  frame-taken : (fs ns : List (List ℕ)) (t : Token) → t .kind ≡ 2 → isTaken (inBlock bs fs ns) t ≡ among (t .content) fs
+  frame-taken : (fs ns : List (List ℕ)) (t : Token) → t .kind ≡ 2 → isTaken (inBlock bs fs ns) t ≡ among (key (t .content)) fs
   unfolding isTaken
   frame-taken fs ns t e = rw e
 
@@ -149,7 +150,7 @@ module _ (limit : ℕ) (bs : List (List ℕ)) where
   unfolding memberYield MemberWhole frameCodes ownNames frameYield
   member-takes (own e) h fs ns = rw append-nil (block-takes bs fs (naming-entry limit e h) ns)
   member-takes (framed f) h fs ns =
-      let gs : List (List ℕ) = fs ++ (f .heading .content ∷ []) in
+      let gs : List (List ℕ) = fs ++ (key (f .heading .content) ∷ []) in
       let ts : List Token = flatMap entryYield (f .entries) in
       ap (λ s. takesAll s (ts ++ (frameEnd ∷ []))) (frame-start bs fs ns (f .heading) (h .heading))
       ∙ takes-append (inFrame bs gs ns []) ts (frameEnd ∷ [])
@@ -165,12 +166,12 @@ module _ (limit : ℕ) (bs : List (List ℕ)) where
       let k : (Distinct ns × Clean (inBlock bs fs ns) (entryYield e)) ↔ Distinct (ns ++ entryNames e) = block-clean bs fs (naming-entry limit e h) ns in
       rw append-nil (λ c. (c .0, k .0 (c .1, c .2), tt), λ d. (d .0, k .1 (d .1) .0, k .1 (d .1) .1))
   member-clean (framed f) h fs ns =
-      let gs : List (List ℕ) = fs ++ (f .heading .content ∷ []) in
+      let gs : List (List ℕ) = fs ++ (key (f .heading .content) ∷ []) in
       let ts : List Token = flatMap entryYield (f .entries) in
       let k : Clean (inFrame bs gs ns []) ts ↔ Distinct (flatMap entryNames (f .entries)) = frame-clean bs gs (naming-entries limit (f .entries) (h .entries)) ns in
       let a : Clean (inFrame bs gs ns []) (ts ++ (frameEnd ∷ [])) ↔ (Clean (inFrame bs gs ns []) ts × Clean (takesAll (inFrame bs gs ns []) ts) (frameEnd ∷ []))
       = clean-append (inFrame bs gs ns []) ts (frameEnd ∷ []) in
-      let d : (Distinct fs × (among (f .heading .content) fs ≡ false)) ↔ Distinct gs = distinct-among fs (f .heading .content) in
+      let d : (Distinct fs × (among (key (f .heading .content)) fs ≡ false)) ↔ Distinct gs = distinct-among fs (key (f .heading .content)) in
       rw (append-nil, frame-taken bs fs ns (f .heading) (h .heading), frame-start bs fs ns (f .heading) (h .heading)) (
         λ c. (d .0 (c .0, c .2 .0), c .1, k .0 (a .0 (c .2 .1) .0)),
         λ c. (d .1 (c .0) .0, c .1, (d .1 (c .0) .1, a .1 (k .1 (c .2), (end-free (takesAll (inFrame bs gs ns []) ts), tt)))),
@@ -215,28 +216,28 @@ module _ (limit : ℕ) (bs : List (List ℕ)) where
             (e .0, e .1, a .1 (e .2, d .2)),
       )
 
-heading-takes : (s : Taken) (t : Token) → t .kind ≡ 1 → takes s t ≡ inBlock (s .blocks ++ (t .content ∷ [])) [] []
+heading-takes : (s : Taken) (t : Token) → t .kind ≡ 1 → takes s t ≡ inBlock (s .blocks ++ (key (t .content) ∷ [])) [] []
 unfolding takes takeBlock
 heading-takes s t e = rw e
 
-heading-taken : (s : Taken) (t : Token) → t .kind ≡ 1 → isTaken s t ≡ among (t .content) (s .blocks)
+heading-taken : (s : Taken) (t : Token) → t .kind ≡ 1 → isTaken s t ≡ among (key (t .content)) (s .blocks)
 unfolding isTaken
 heading-taken s t e = rw e
 
 module _ (limit : ℕ) where
   -- a block leaves its code
-  block-code : (b : Block) → BlockWhole limit b → (s : Taken) → takesAll s (blockYield b) .blocks ≡ s .blocks ++ (b .heading .content ∷ [])
+  block-code : (b : Block) → BlockWhole limit b → (s : Taken) → takesAll s (blockYield b) .blocks ≡ s .blocks ++ (key (b .heading .content) ∷ [])
   unfolding blockYield
   block-code b h s =
-      let bs : List (List ℕ) = s .blocks ++ (b .heading .content ∷ []) in
+      let bs : List (List ℕ) = s .blocks ++ (key (b .heading .content) ∷ []) in
       ap (λ r. takesAll r (flatMap memberYield (b .members)) .blocks) (heading-takes s (b .heading) (h .heading))
       ∙ ap (λ r. r .blocks) (members-takes limit bs (b .members) (h .members) [] [])
 
   block-distinct : (b : Block) → BlockWhole limit b → (s : Taken)
-      → Clean s (blockYield b) ↔ ((among (b .heading .content) (s .blocks) ≡ false) × BlockDistinct b)
+      → Clean s (blockYield b) ↔ ((among (key (b .heading .content)) (s .blocks) ≡ false) × BlockDistinct b)
   unfolding blockYield
   block-distinct b h s =
-      let bs : List (List ℕ) = s .blocks ++ (b .heading .content ∷ []) in
+      let bs : List (List ℕ) = s .blocks ++ (key (b .heading .content) ∷ []) in
       let ms : List Token = flatMap memberYield (b .members) in
       let k : (Unit {0} × Unit {0} × Clean (inBlock bs [] []) ms) ↔ (Distinct (flatMap frameCodes (b .members)) × Distinct (flatMap ownNames (b .members)) × Each FrameDistinct (b .members))
       = members-clean limit bs (b .members) (h .members) [] [] in
@@ -246,12 +247,12 @@ module _ (limit : ℕ) where
       )
 
   file-distinct : (f : File) → FileWhole limit f → (s : Taken)
-      → (Distinct (s .blocks) × Clean s (fileYield f)) ↔ (Distinct (s .blocks ++ map (λ b. b .heading .content) f) × Each BlockDistinct f)
+      → (Distinct (s .blocks) × Clean s (fileYield f)) ↔ (Distinct (s .blocks ++ map (λ b. key (b .heading .content)) f) × Each BlockDistinct f)
   unfolding flatMap
   file-distinct [] h s = rw append-nil (λ c. c, λ c. c)
   file-distinct (b ∷ f) h s =
-      let code : List ℕ = b .heading .content in
-      let codes : List (List ℕ) = map (λ b. b .heading .content) f in
+      let code : List ℕ = key (b .heading .content) in
+      let codes : List (List ℕ) = map (λ b. key (b .heading .content)) f in
       let u : Taken = takesAll s (blockYield b) in
       let d : (Distinct (s .blocks) × (among code (s .blocks) ≡ false)) ↔ Distinct (s .blocks ++ (code ∷ [])) = distinct-among (s .blocks) code in
       let k : Clean s (blockYield b) ↔ ((among code (s .blocks) ≡ false) × BlockDistinct b) = block-distinct b (h .0) s in
@@ -272,9 +273,9 @@ module _ (limit : ℕ) where
   pub repeat-distinct : (f : File) → FileWhole limit f → FileDistinct f ↔ (firstRepeat nothing (fileYield f) ≡ length (fileYield f))
   unfolding nothing
   repeat-distinct f h =
-      let k : (Unit {0} × Clean nothing (fileYield f)) ↔ (Distinct (map (λ b. b .heading .content) f) × Each BlockDistinct f) = file-distinct f h nothing in (
+      let k : (Unit {0} × Clean nothing (fileYield f)) ↔ (Distinct (map (λ b. key (b .heading .content)) f) × Each BlockDistinct f) = file-distinct f h nothing in (
         λ d. clean-repeat nothing (fileYield f) (k .1 (d .codes, d .blocks) .1),
         λ e.
-            let c : Distinct (map (λ b. b .heading .content) f) × Each BlockDistinct f = k .0 (tt, repeat-clean nothing (fileYield f) e) in
+            let c : Distinct (map (λ b. key (b .heading .content)) f) × Each BlockDistinct f = k .0 (tt, repeat-clean nothing (fileYield f) e) in
             record { blocks = c .1; codes = c .0 },
       )

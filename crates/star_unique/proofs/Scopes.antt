@@ -6,25 +6,26 @@ use Prim.Native.Nat.{ℕ, suc, _+_, _≤_}
 use native.Mathlib.Omega.{arith}
 use lib.Dec.{eqb}
 use borrow.Author.Tests.{eqb-true, eqb-false, eq-eqb, ne-eqb, le-leb}
+use Rattle.star_text.specs.Names.{key, equal, same}
 use Rattle.star_lex.specs.Tokens.{Token}
 use Rattle.star_lex.proofs.Cases.{impossible}
-use Rattle.star_unique.specs.Repeat.{Taken, nothing, same, among, isTaken, takes, takeBlock, takeFrame, endFrame, takeName}
+use Rattle.star_unique.specs.Repeat.{Taken, nothing, among, isTaken, takes, takeBlock, takeFrame, endFrame, takeName}
 use Rattle.star_unique.specs.Chain.{sortOf, floorOf, passed, scopeAt, sortAt, earlier, takenAt}
 use Rattle.star_unique.specs.declared.Scope.{Scope}
 use Rattle.star_unique.proofs.Chain.{earlier-floor, earlier-other}
 
-among-more : (x : List ℕ) (ys : List (List ℕ)) (y : List ℕ) → among x (ys ++ (y ∷ [])) ≡ (among x ys || same x y)
+among-more : (x : List ℕ) (ys : List (List ℕ)) (y : List ℕ) → among x (ys ++ (y ∷ [])) ≡ (among x ys || equal x y)
 unfolding among
-among-more x [] y = or-false (same x y)
-among-more x (z ∷ ys) y = rw (among-more x ys y) (sym (or-assoc (same x z) (among x ys) (same x y)))
+among-more x [] y = or-false (equal x y)
+among-more x (z ∷ ys) y = rw (among-more x ys y) (sym (or-assoc (equal x z) (among x ys) (equal x y)))
 
 -- what is taken and the scopes agree on where a content stands
 pub record Agrees (at : ℕ → Token) (x : List ℕ) (s : Taken) (c : Scope) (n : ℕ) : Type 0 where
-  pub blocks : among x (s .blocks) ≡ earlier at 1 x 0 n
-  pub frames : among x (s .frames) ≡ earlier at 2 x (c .block) n
-  pub names : among x (s .names) ≡ earlier at 6 x (c .block) n
+  pub blocks : among (key x) (s .blocks) ≡ earlier at 1 x 0 n
+  pub frames : among (key x) (s .frames) ≡ earlier at 2 x (c .block) n
+  pub names : among (key x) (s .names) ≡ earlier at 6 x (c .block) n
   pub inside : s .inFrame ≡ c .inside
-  pub inner : c .inside ≡ true → among x (s .inner) ≡ earlier at 13 x (c .frame) n
+  pub inner : c .inside ≡ true → among (key x) (s .inner) ≡ earlier at 13 x (c .frame) n
   pub block-within : c .block ≤ n
   pub frame-within : c .frame ≤ n
 
@@ -44,12 +45,12 @@ module _ (at : ℕ → Token) (x : List ℕ) (s : Taken) (c : Scope) (n : ℕ) (
   other : (sort floor : ℕ) → (sortAt at n ≡ sort → ⊥) → earlier at sort x floor n ≡ earlier at sort x floor (suc n)
   other sort floor h = sym (earlier-other at sort x floor n (rw (ne-eqb (sortAt at n) sort h)))
 
-  more : (sort floor : ℕ) → sortAt at n ≡ sort → floor ≤ n → (ys : List (List ℕ)) → among x ys ≡ earlier at sort x floor n
-      → among x (ys ++ (at n .content ∷ [])) ≡ earlier at sort x floor (suc n)
-  unfolding earlier
-  more sort floor e h ys q = among-more x ys (at n .content) ∙ rw (q, eq-eqb (sortAt at n) sort e, le-leb floor n h)
+  more : (sort floor : ℕ) → sortAt at n ≡ sort → floor ≤ n → (ys : List (List ℕ)) → among (key x) ys ≡ earlier at sort x floor n
+      → among (key x) (ys ++ (key (at n .content) ∷ [])) ≡ earlier at sort x floor (suc n)
+  unfolding earlier same
+  more sort floor e h ys q = among-more (key x) ys (key (at n .content)) ∙ rw (q, eq-eqb (sortAt at n) sort e, le-leb floor n h)
 
-  none : (sort : ℕ) → among x [] ≡ earlier at sort x (suc n) (suc n)
+  none : (sort : ℕ) → among (key x) [] ≡ earlier at sort x (suc n) (suc n)
   unfolding among
   none sort = sym (earlier-floor at sort x (suc n) (suc n) (omega arith))
 
@@ -159,7 +160,7 @@ taken-is at s n a = go (scopeAt at n .inside) refl (eqb (at n .kind) 6) refl (eq
         → eqb (at n .kind) 2 ≡ r
         → cond (eqb (cond p (cond i 13 6) (cond q 1 (cond r 2 0))) 0) false
         (earlier at (cond p (cond i 13 6) (cond q 1 (cond r 2 0))) (at n .content) (floorOf (scopeAt at n) (cond p (cond i 13 6) (cond q 1 (cond r 2 0)))) n)
-        ≡ cond q (among (at n .content) (s .blocks)) (cond r (among (at n .content) (s .frames)) (cond p (among (at n .content) (cond (s .inFrame) (s .inner) (s .names))) false))
+        ≡ cond q (among (key (at n .content)) (s .blocks)) (cond r (among (key (at n .content)) (s .frames)) (cond p (among (key (at n .content)) (cond (s .inFrame) (s .inner) (s .names))) false))
     go i e true d true f r g = absurd (omega (arith, eqb-true (at n .kind) 6 d, eqb-true (at n .kind) 1 f))
     go i e true d false f true g = absurd (omega (arith, eqb-true (at n .kind) 6 d, eqb-true (at n .kind) 2 g))
     go true e true d false f false g = rw (a .inside, e) (sym (a .inner e))

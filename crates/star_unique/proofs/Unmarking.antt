@@ -12,10 +12,11 @@ use Rattle.star_lex.specs.Tokens.{Token, Each}
 use Rattle.star_lex.specs.Split.{Split, refused, accepted, tokensOf, placed}
 use Rattle.star_lex.specs.WellFormed.{WellFormed, block, frame, frameEnd, loop, stop, name, word, reference, single, double, text, global}
 use Rattle.star_lex.proofs.WellFormed.{split-well-formed}
-use Rattle.star_unique.specs.Holds.{Holds, fileTokens, tokenAt}
+use Rattle.star_lex.specs.Holds.{Holds, fileTokens, tokenAt}
 use Rattle.star_unique.specs.Chain.{tableOf, sortOf, sortAt, scopeAt, markAt, kindOf}
 use Rattle.star_unique.specs.Marked.{Marked}
-use Rattle.star_unique.proofs.Held.{each-at, held-row, count-tokens}
+use Rattle.star_lex.proofs.Held.{held-row, count-tokens}
+use Rattle.star_lex.proofs.Each.{each-at}
 use Rattle.star_unique.proofs.Marks.{mark-sort}
 use Rattle.star_unique.proofs.Marking.{word-here, word-other, spans-set}
 

@@ -4,10 +4,10 @@ use mathlib.Core.Bool.{Bool, true, false, cond, _&&_, _||_}
 use mathlib.Core.List.{List, [], _∷_}
 use Prim.Native.Nat.{ℕ, zero, suc, _+_, _*_, _%_}
 use lib.Dec.{eqb, leb}
+use Rattle.star_text.specs.Names.{key, same}
 use Rattle.star_rows.specs.Rows.{holding}
 use Rattle.star_lex.specs.Tokens.{Token, tokenRow}
 use Rattle.star_lex.specs.Split.{tokensOf, placed}
-use Rattle.star_unique.specs.Repeat.{same}
 use Rattle.star_unique.specs.declared.Scope.{Scope}
 
 -- table 1 of a file in so many words
@@ -43,7 +43,7 @@ mix h [] = h
 mix h (b ∷ bs) = mix ((h * 2685 + b) % 4096) bs
 
 unfoldable pub bucketOf : (sort : ℕ) → List ℕ → ℕ
-bucketOf sort x = mix (sort % 4096) x
+bucketOf sort x = mix (sort % 4096) (key x)
 
 -- the bucket of a token; 4096 where it is no name or code
 unfoldable pub bucketAt : (ℕ → Token) → ℕ → ℕ
@@ -62,7 +62,7 @@ markAt at n = cond (eqb (sortAt at n) 0) (at n .kind) (sortAt at n + latest (buc
 unfoldable pub kindOf : ℕ → ℕ
 kindOf word = cond (eqb (word % 16) 13) 6 (word % 16)
 
--- a token before the n-th, not before the floor, is of this sort and has these bytes
+-- a token before the n-th, not before the floor, is of this sort and equal to these bytes
 unfoldable pub earlier : (ℕ → Token) → (sort : ℕ) → List ℕ → (floor n : ℕ) → Bool
 earlier at sort x floor zero = false
 earlier at sort x floor (suc m) = earlier at sort x floor m || (leb floor m && (eqb (sortAt at m) sort && same x (at m .content)))

@@ -4,7 +4,7 @@ use mathlib.Core.Bool.{Bool, true, false}
 use mathlib.Core.List.{List}
 use Prim.Native.Nat.{ℕ, _+_, _*_, _≤_, _<_}
 use lib.ListN.{length, getD}
-use Rattle.star_unique.specs.Holds.{Holds, tokenAt}
+use Rattle.star_lex.specs.Holds.{Holds, tokenAt}
 use Rattle.star_unique.specs.Chain.{tableOf, bucketAt, latest, markAt, takenAt}
 
 -- the spans are those of table 1

@@ -1,23 +1,18 @@
 -- The first name or code of a row of tokens that is already taken (specification 5): names are unique within a block, its frames not counted, and
 -- within a frame; frame codes are unique within a block, block codes within the file.
-use mathlib.Core.Bool.{Bool, true, false, cond, _&&_, _||_}
+use mathlib.Core.Bool.{Bool, false, true, cond, _||_}
 use mathlib.Core.List.{List, [], _∷_, _++_}
 use Prim.Native.Nat.{ℕ, suc}
 use lib.Dec.{eqb}
+use Rattle.star_text.specs.Names.{key, equal}
 use Rattle.star_lex.specs.Tokens.{Token}
 
--- names and codes are compared byte by byte
-unfoldable pub same : List ℕ → List ℕ → Bool
-same [] [] = true
-same [] (b ∷ bs) = false
-same (a ∷ xs) [] = false
-same (a ∷ xs) (b ∷ bs) = eqb a b && same xs bs
-
+-- a key in a list of keys
 unfoldable pub among : List ℕ → List (List ℕ) → Bool
 among x [] = false
-among x (y ∷ ys) = same x y || among x ys
+among x (y ∷ ys) = equal x y || among x ys
 
--- what is taken so far: block codes of the file, frame codes and own names of the open block, names of the open frame, and whether a frame is open
+-- the keys of what is taken so far: block codes of the file, frame codes and own names of the open block, names of the open frame, and whether a frame is open
 pub record Taken : Type 0 where
   pub blocks : List (List ℕ)
   pub frames : List (List ℕ)
@@ -31,15 +26,15 @@ nothing = record { blocks = []; frames = []; names = []; inner = []; inFrame = f
 -- a name or code equal to one that is taken
 unfoldable pub isTaken : Taken → Token → Bool
 isTaken s t =
-    cond (eqb (t .kind) 1) (among (t .content) (s .blocks))
-    (cond (eqb (t .kind) 2) (among (t .content) (s .frames))
-    (cond (eqb (t .kind) 6) (among (t .content) (cond (s .inFrame) (s .inner) (s .names))) false))
+    cond (eqb (t .kind) 1) (among (key (t .content)) (s .blocks))
+    (cond (eqb (t .kind) 2) (among (key (t .content)) (s .frames))
+    (cond (eqb (t .kind) 6) (among (key (t .content)) (cond (s .inFrame) (s .inner) (s .names))) false))
 
 unfoldable pub takeBlock : Taken → Token → Taken
-takeBlock s t = record { blocks = s .blocks ++ (t .content ∷ []); frames = []; names = []; inner = []; inFrame = false }
+takeBlock s t = record { blocks = s .blocks ++ (key (t .content) ∷ []); frames = []; names = []; inner = []; inFrame = false }
 
 unfoldable pub takeFrame : Taken → Token → Taken
-takeFrame s t = record { blocks = s .blocks; frames = s .frames ++ (t .content ∷ []); names = s .names; inner = []; inFrame = true }
+takeFrame s t = record { blocks = s .blocks; frames = s .frames ++ (key (t .content) ∷ []); names = s .names; inner = []; inFrame = true }
 
 unfoldable pub endFrame : Taken → Taken
 endFrame s = record { blocks = s .blocks; frames = s .frames; names = s .names; inner = []; inFrame = false }
@@ -47,8 +42,8 @@ endFrame s = record { blocks = s .blocks; frames = s .frames; names = s .names; 
 unfoldable pub takeName : Taken → Token → Taken
 takeName s t =
     cond (s .inFrame)
-    (record { blocks = s .blocks; frames = s .frames; names = s .names; inner = s .inner ++ (t .content ∷ []); inFrame = true })
-    (record { blocks = s .blocks; frames = s .frames; names = s .names ++ (t .content ∷ []); inner = s .inner; inFrame = false })
+    (record { blocks = s .blocks; frames = s .frames; names = s .names; inner = s .inner ++ (key (t .content) ∷ []); inFrame = true })
+    (record { blocks = s .blocks; frames = s .frames; names = s .names ++ (key (t .content) ∷ []); inner = s .inner; inFrame = false })
 
 -- what is taken after a token
 unfoldable pub takes : Taken → Token → Taken

@@ -5,29 +5,13 @@ ghost use mathlib.Core.Bool.{_&&_};
 ghost use Prim.Native.Nat.{_+_, _*_, _%_, _≤_, _<_};
 ghost use lib.Dec.{eqb};
 ghost use lib.ListN.{length, getD};
+ghost use Rattle.star_text.specs.Names.{same as Names·same};
 ghost use Rattle.star_lex.specs.Found.{tokensIn, tableOf as Found·tableOf};
-ghost use Rattle.star_unique.specs.Repeat.{nothing, firstRepeat, same as Repeat·same};
-ghost use Rattle.star_unique.specs.Holds.{Holds, fileTokens, tokenAt};
+ghost use Rattle.star_unique.specs.Repeat.{nothing, firstRepeat};
+ghost use Rattle.star_lex.specs.Holds.{Holds, fileTokens, tokenAt};
 ghost use Rattle.star_unique.specs.Chain.{sortOf, floorOf, passed, scopeAt, bucketOf, bucketAt, latest, earlier, kindOf, tableOf};
 ghost use Rattle.star_unique.specs.Marked.{Spans, Marked, Heads, Visited};
 ghost use Rattle.star_unique.specs.Compared.{comparedOf};
-
-// Whether two rows of bytes are equal. Names of one family differ at their ends, so the last bytes are compared first.
-pub fn same(a: &[u8], b: &[u8]) -> bool
-    ensures { λ r. ⌜ r ≡ Repeat·same (now (a .entry)) (now (b .entry)) ⌝ }
-{
-    if a.len() != b.len() {
-        return false;
-    }
-    let mut i = a.len();
-    while i > 0 {
-        i -= 1;
-        if a[i] != b[i] {
-            return false;
-        }
-    }
-    true
-}
 
 // The part of the file that token `n` spans.
 fn span<'a>(file: &'a [u8], tokens: &[u32], count: usize, n: usize) -> &'a [u8]
@@ -120,14 +104,14 @@ fn bucket(sort: u32, bytes: &[u8]) -> usize
     h as usize
 }
 
-// Whether token `m` is marked as of this sort and has these bytes.
+// Whether token `m` is marked as of this sort and equal to these bytes.
 fn is_equal(file: &[u8], tokens: &[u32], count: usize, m: usize, sort: u32, bytes: &[u8]) -> bool
     requires { ⌜ Spans (now file) (now tokens) count ⌝ }
     requires { ⌜ m < count ⌝ }
-    ensures { λ r. ⌜ r ≡ (eqb (getD (now (tokens .entry)) (m * 3) 0 % 16) sort && Repeat·same (now (bytes .entry)) (tokenAt (now (file .entry)) m .content)) ⌝ }
+    ensures { λ r. ⌜ r ≡ (eqb (getD (now (tokens .entry)) (m * 3) 0 % 16) sort && Names·same (now (bytes .entry)) (tokenAt (now (file .entry)) m .content)) ⌝ }
 {
     if tokens[m * 3] % 16 == sort {
-        same(bytes, span(file, tokens, count, m))
+        star_text::same(bytes, span(file, tokens, count, m))
     } else {
         false
     }

@@ -13,7 +13,7 @@ use Rattle.star_lex.specs.Tokens.{Placed}
 use Rattle.star_lex.specs.Plain.{plainOf}
 use Rattle.star_lex.proofs.Cases.{impossible, cond-cases}
 use Rattle.star_grammar.specs.Tables.{Rows}
-use Rattle.star_unique.specs.Holds.{fileTokens}
+use Rattle.star_lex.specs.Holds.{fileTokens}
 use Rattle.star_read.specs.Read.{Outcome, Sizes, tokensOnly, readOf}
 use Rattle.star_read.specs.Read as Read
 use Rattle.star_read.specs.Answer.{Tables, Leaves}

@@ -10,9 +10,9 @@ use Rattle.star_text.specs.Bytes.{mostBytes}
 use Rattle.star_rows.proofs.Stored.{flat-append}
 use Rattle.star_lex.specs.Tokens.{Token}
 use Rattle.star_lex.specs.Plain.{plainToken, plainOf}
-use Rattle.star_lex.specs.Table.{contentIn}
-use Rattle.star_unique.specs.Holds.{Holds, fileTokens, tokenAt}
-use Rattle.star_unique.proofs.Held.{Row, held-row, held-content, count-tokens}
+use Rattle.star_lex.specs.Table.{contentIn, orEmpty}
+use Rattle.star_lex.specs.Holds.{Holds, fileTokens, tokenAt}
+use Rattle.star_lex.proofs.Held.{Row, held-row, held-content, count-tokens}
 use Rattle.star_write.specs.Put.{tokenOf}
 
 -- the plain form of the first tokens of a row
@@ -46,7 +46,7 @@ module _ (file words : List ℕ) (count : ℕ) (h : Holds file words count) wher
   pub plain-all : (n : ℕ) → count ≤ n → plainFirst n (fileTokens file) ≡ plainOf (fileTokens file)
   plain-all n g = ap plainOf (take-all n (fileTokens file) (omega (arith, count-tokens file words count h)))
 
-  pub next : (n : ℕ) → n < count → (content : List ℕ) → content ≡ contentIn file words n → Next file n (getD words (n * 3) 0) content
+  pub next : (n : ℕ) → n < count → (content : List ℕ) → content ≡ orEmpty (contentIn file words n) → Next file n (getD words (n * 3) 0) content
   next n below content c =
       let r : Row file words n = held-row file words count h n below in
       let e : content ≡ tokenAt file n .content = c ∙ held-content file words count h n below in

@@ -9,7 +9,7 @@ ghost use mathlib.Core.List.{_++_};
 ghost use Prim.Native.Nat.{_-_, _≤_};
 ghost use lib.ListN.{length, replicate};
 ghost use Rattle.star_lex.specs.Plain.{plainOf};
-ghost use Rattle.star_unique.specs.Holds.{Holds, fileTokens};
+ghost use Rattle.star_lex.specs.Holds.{Holds, fileTokens};
 ghost use Rattle.star_read.specs.Read.{Sizes, readOf};
 ghost use Rattle.star_read.specs.Answer.{answerOf as Read·answerOf, tables, sizes, Leaves};
 ghost use Rattle.star_write.specs.Write.{refused, writeOf};

@@ -5,7 +5,7 @@ ghost use mathlib.Core.List.{_++_};
 ghost use Prim.Native.Nat.{_≤_};
 ghost use lib.ListN.{length, drop};
 ghost use Rattle.star_lex.specs.Plain.{plainOf};
-ghost use Rattle.star_unique.specs.Holds.{Holds, fileTokens};
+ghost use Rattle.star_lex.specs.Holds.{Holds, fileTokens};
 
 // How many bytes the tokens take. It is called by proved layers only, which hand it table 1 of the file.
 pub(crate) fn plain_length(file: &[u8], tokens: &[u32], count: usize) -> usize

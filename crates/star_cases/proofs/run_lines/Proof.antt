@@ -1,4 +1,4 @@
--- `run_lines` is safe and ends: each turn goes past the line that it runs, and a call leaves the lengths of what is lent.
+-- `run_lines` is safe and ends: each turn goes past the line that it runs, and a call leaves the length of what is lent.
 use mathlib.Core.Path.{_≡_}
 use Prim.Native.Nat.{_-_}
 use borrow.Author.Needs.{needs}
@@ -7,40 +7,31 @@ use Rattle.star_cases.proofs.run_lines.Statement.{statement}
 use Rattle.star_cases.proofs.run_lines.Tie as tie
 
 abbrev Inv-loop : tie.InvT-loop
-Inv-loop lines are_calls file₀ kept₀ size₀ at₀ file kept size at = (length file ≡ length file₀) × (length kept ≡ length kept₀)
+Inv-loop lines kept₀ at₀ last₀ kept at last = length kept ≡ length kept₀
 
 abbrev μ-loop : tie.MeasureT-loop
-μ-loop lines are_calls file₀ kept₀ size₀ at₀ file kept size at = length lines - at
+μ-loop lines kept₀ at₀ last₀ kept at last = length lines - at
 
 loop-holds : tie.Need-loop-holds Inv-loop μ-loop
 loop-holds c = search needs
 
-sub-before : tie.Need-sub-before Inv-loop μ-loop
-sub-before c = search needs
+shared-slice-read-last-of : tie.Need-shared-slice-read-last-of Inv-loop μ-loop
+shared-slice-read-last-of c = search needs
 
-part-before-start : tie.Need-part-before-start Inv-loop μ-loop
-part-before-start c = search needs
+last-of-requires : tie.Need-last-of-requires Inv-loop μ-loop
+last-of-requires c κs = search needs
 
-part-before-end : tie.Need-part-before-end Inv-loop μ-loop
-part-before-end c = search needs
+line-requires : tie.Need-line-requires Inv-loop μ-loop
+line-requires c κs = search needs
 
-before-requires : tie.Need-before-requires Inv-loop μ-loop
-before-requires c κs = search needs
-
-add-end : tie.Need-add-end Inv-loop μ-loop
-add-end c = search needs
-
-sub-run-line : tie.Need-sub-run-line Inv-loop μ-loop
-sub-run-line c = search needs
-
-part-run-line-start : tie.Need-part-run-line-start Inv-loop μ-loop
-part-run-line-start c = search needs
-
-part-run-line-end : tie.Need-part-run-line-end Inv-loop μ-loop
-part-run-line-end c = search needs
+line-requires-2 : tie.Need-line-requires-2 Inv-loop μ-loop
+line-requires-2 c κs = search needs
 
 run-line-requires : tie.Need-run-line-requires Inv-loop μ-loop
 run-line-requires c κs = search needs
+
+find-requires : tie.Need-find-requires Inv-loop μ-loop
+find-requires c κs = search needs
 
 add-at : tie.Need-add-at Inv-loop μ-loop
 add-at c = search needs
@@ -54,9 +45,6 @@ loop-again c = search needs
 same-length : tie.Need-same-length Inv-loop μ-loop
 same-length c = search needs
 
-same-length-2 : tie.Need-same-length-2 Inv-loop μ-loop
-same-length-2 c = search needs
-
 returns : tie.Need-returns Inv-loop μ-loop
 returns c = search needs
 
@@ -67,18 +55,14 @@ run-lines-spec =
     Inv-loop
     μ-loop
     loop-holds
-    sub-before
-    part-before-start
-    part-before-end
-    before-requires
-    add-end
-    sub-run-line
-    part-run-line-start
-    part-run-line-end
+    shared-slice-read-last-of
+    last-of-requires
+    line-requires
+    line-requires-2
     run-line-requires
+    find-requires
     add-at
     loop-less
     loop-again
     same-length
-    same-length-2
     returns)

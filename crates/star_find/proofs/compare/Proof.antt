@@ -1,9 +1,11 @@
--- `compare` meets its contract: a part that is inside is compared byte by byte.
-use mathlib.Core.Path.{sym, _∙_}
-use borrow.Author.Needs.{needs}
+-- `compare` meets its contract: a part that is inside is compared.
+use mathlib.Core.Path.{sym, _∙_, ap}
+use mathlib.Core.Option.{some}
 use borrow.Author.Tests.{not-true, not-false}
+use Rattle.star_lex.proofs.Table.{some-of}
 use Rattle.star_find.specs.Find.{matchOf}
 use Rattle.star_find.proofs.Looking.{is-none}
+use borrow.Author.Needs.{needs}
 use Rattle.star_find.proofs.compare.Statement.{statement}
 use Rattle.star_find.proofs.compare.Tie as tie
 
@@ -15,18 +17,18 @@ unfolding matchOf
 returns c = rw (is-none _ (sym (c .before .has-part .ensures) ∙ not-true _ (c .if1 .taken)))
 
 part-requires : tie.Need-part-requires
-part-requires c κs = (c .before .before .before .before .before .pre, sym (c .before .has-part .ensures) ∙ not-false _ (c .if1 .left))
+part-requires c κs = search needs
 
 same-requires : tie.Need-same-requires
 same-requires c κs = search needs
 
 returns-2 : tie.Need-returns-2
 unfolding matchOf
-returns-2 c = rw (c .before .before .part .ensures .0, sym (c .before .same .ensures) ∙ c .if2 .taken)
+returns-2 c = rw (some-of _ (sym (c .before .before .before .before .has-part .ensures) ∙ not-false _ (c .before .before .before .if1 .left)) ∙ ap some (sym (c .before .before .part .ensures .0)), sym (c .before .same .ensures) ∙ c .if2 .taken)
 
 returns-3 : tie.Need-returns-3
 unfolding matchOf
-returns-3 c = rw (c .before .before .part .ensures .0, sym (c .before .same .ensures) ∙ c .if2 .left)
+returns-3 c = rw (some-of _ (sym (c .before .before .before .before .has-part .ensures) ∙ not-false _ (c .before .before .before .if1 .left)) ∙ ap some (sym (c .before .before .part .ensures .0)), sym (c .before .same .ensures) ∙ c .if2 .left)
 
 pub compare-spec : {M : Type 1} → statement M
 compare-spec =

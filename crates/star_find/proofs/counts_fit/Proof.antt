@@ -1,87 +1,57 @@
 -- `counts_fit` meets its contract: each count is tested against its table in turn.
-use native.Mathlib.Omega.{arith}
-use borrow.Author.Needs.{needs}
-use lib.ListN.{length}
+use mathlib.Core.Path.{sym, _∙_}
+use borrow.Author.Tests.{not-true, not-false}
 use Rattle.star_find.specs.Find.{fits}
-use Rattle.star_find.proofs.Looking.{rows-fit, rows-over}
+use borrow.Author.Needs.{needs}
 use Rattle.star_find.proofs.counts_fit.Statement.{statement}
 use Rattle.star_find.proofs.counts_fit.Tie as tie
 
-cast-if1 : tie.Need-cast-if1
-cast-if1 c = search needs
+fits-requires : tie.Need-fits-requires
+fits-requires c κs = search needs
 
 returns : tie.Need-returns
 unfolding fits
-returns c = rw (rows-over 3 (c .before .before .args .counts .tokens) (length (c .before .before .args .tokens .now)) (omega arith) (c .if1 .taken))
+returns c = rw (sym (c .before .fits2 .ensures) ∙ not-true _ (c .if1 .taken))
 
-cast-if2 : tie.Need-cast-if2
-cast-if2 c = search needs
+fits-requires-2 : tie.Need-fits-requires-2
+fits-requires-2 c κs = search needs
 
 returns-2 : tie.Need-returns-2
 unfolding fits
-returns-2 c = rw (
-  rows-fit 3 (c .before .before .before .before .args .counts .tokens) (length (c .before .before .before .before .args .tokens .now)) (omega arith) (c .before .before .if1 .left),
-  rows-over 3 (c .before .before .before .before .args .counts .sets) (length (c .before .before .before .before .args .sets .now)) (omega arith) (c .if2 .taken),
-)
+returns-2 c = rw (sym (c .before .before .before .fits2 .ensures) ∙ not-false _ (c .before .before .if1 .left), sym (c .before .fits3 .ensures) ∙ not-true _ (c .if2 .taken))
 
-cast-if3 : tie.Need-cast-if3
-cast-if3 c = search needs
+fits-requires-3 : tie.Need-fits-requires-3
+fits-requires-3 c κs = search needs
 
 returns-3 : tie.Need-returns-3
 unfolding fits
-returns-3 c = rw (
-  rows-fit 3 (c .before .before .before .before .before .before .args .counts .tokens) (length (c .before .before .before .before .before .before .args .tokens .now)) (omega arith) (c .before .before .before .before .if1 .left),
-  rows-fit 3 (c .before .before .before .before .before .before .args .counts .sets) (length (c .before .before .before .before .before .before .args .sets .now)) (omega arith) (c .before .before .if2 .left),
-  rows-over 4 (c .before .before .before .before .before .before .args .counts .names) (length (c .before .before .before .before .before .before .args .names .now)) (omega arith) (c .if3 .taken),
-)
+returns-3 c = rw (sym (c .before .before .before .before .before .fits2 .ensures) ∙ not-false _ (c .before .before .before .before .if1 .left), sym (c .before .before .before .fits3 .ensures) ∙ not-false _ (c .before .before .if2 .left), sym (c .before .fits4 .ensures) ∙ not-true _ (c .if3 .taken))
 
-cast-if4 : tie.Need-cast-if4
-cast-if4 c = search needs
+fits-requires-4 : tie.Need-fits-requires-4
+fits-requires-4 c κs = search needs
 
 returns-4 : tie.Need-returns-4
 unfolding fits
-returns-4 c = rw (
-  rows-fit 3 (c .before .before .before .before .before .before .before .before .args .counts .tokens) (length (c .before .before .before .before .before .before .before .before .args .tokens .now)) (omega arith) (c .before .before .before .before .before .before .if1 .left),
-  rows-fit 3 (c .before .before .before .before .before .before .before .before .args .counts .sets) (length (c .before .before .before .before .before .before .before .before .args .sets .now)) (omega arith) (c .before .before .before .before .if2 .left),
-  rows-fit 4 (c .before .before .before .before .before .before .before .before .args .counts .names) (length (c .before .before .before .before .before .before .before .before .args .names .now)) (omega arith) (c .before .before .if3 .left),
-  rows-over 3 (c .before .before .before .before .before .before .before .before .args .counts .packets) (length (c .before .before .before .before .before .before .before .before .args .packets .now)) (omega arith) (c .if4 .taken),
-)
+returns-4 c = rw (sym (c .before .before .before .before .before .before .before .fits2 .ensures) ∙ not-false _ (c .before .before .before .before .before .before .if1 .left), sym (c .before .before .before .before .before .fits3 .ensures) ∙ not-false _ (c .before .before .before .before .if2 .left), sym (c .before .before .before .fits4 .ensures) ∙ not-false _ (c .before .before .if3 .left), sym (c .before .fits5 .ensures) ∙ not-true _ (c .if4 .taken))
 
-cast-if5 : tie.Need-cast-if5
-cast-if5 c = search needs
+fits-requires-5 : tie.Need-fits-requires-5
+fits-requires-5 c κs = search needs
 
 returns-5 : tie.Need-returns-5
 unfolding fits
-returns-5 c = rw (
-  rows-fit 3 (c .before .before .before .before .before .before .before .before .before .before .args .counts .tokens) (length (c .before .before .before .before .before .before .before .before .before .before .args .tokens .now)) (omega arith) (c .before .before .before .before .before .before .before .before .if1 .left),
-  rows-fit 3 (c .before .before .before .before .before .before .before .before .before .before .args .counts .sets) (length (c .before .before .before .before .before .before .before .before .before .before .args .sets .now)) (omega arith) (c .before .before .before .before .before .before .if2 .left),
-  rows-fit 4 (c .before .before .before .before .before .before .before .before .before .before .args .counts .names) (length (c .before .before .before .before .before .before .before .before .before .before .args .names .now)) (omega arith) (c .before .before .before .before .if3 .left),
-  rows-fit 3 (c .before .before .before .before .before .before .before .before .before .before .args .counts .packets) (length (c .before .before .before .before .before .before .before .before .before .before .args .packets .now)) (omega arith) (c .before .before .if4 .left),
-  rows-over 3 (c .before .before .before .before .before .before .before .before .before .before .args .counts .values) (length (c .before .before .before .before .before .before .before .before .before .before .args .values .now)) (omega arith) (c .if5 .taken),
-)
-
-returns-6 : tie.Need-returns-6
-unfolding fits
-returns-6 c = rw (
-  rows-fit 3 (c .before .before .before .before .before .before .before .before .before .before .args .counts .tokens) (length (c .before .before .before .before .before .before .before .before .before .before .args .tokens .now)) (omega arith) (c .before .before .before .before .before .before .before .before .if1 .left),
-  rows-fit 3 (c .before .before .before .before .before .before .before .before .before .before .args .counts .sets) (length (c .before .before .before .before .before .before .before .before .before .before .args .sets .now)) (omega arith) (c .before .before .before .before .before .before .if2 .left),
-  rows-fit 4 (c .before .before .before .before .before .before .before .before .before .before .args .counts .names) (length (c .before .before .before .before .before .before .before .before .before .before .args .names .now)) (omega arith) (c .before .before .before .before .if3 .left),
-  rows-fit 3 (c .before .before .before .before .before .before .before .before .before .before .args .counts .packets) (length (c .before .before .before .before .before .before .before .before .before .before .args .packets .now)) (omega arith) (c .before .before .if4 .left),
-  rows-fit 3 (c .before .before .before .before .before .before .before .before .before .before .args .counts .values) (length (c .before .before .before .before .before .before .before .before .before .before .args .values .now)) (omega arith) (c .if5 .left),
-)
+returns-5 c = rw (sym (c .before .before .before .before .before .before .before .before .fits2 .ensures) ∙ not-false _ (c .before .before .before .before .before .before .before .if1 .left), sym (c .before .before .before .before .before .before .fits3 .ensures) ∙ not-false _ (c .before .before .before .before .before .if2 .left), sym (c .before .before .before .before .fits4 .ensures) ∙ not-false _ (c .before .before .before .if3 .left), sym (c .before .before .fits5 .ensures) ∙ not-false _ (c .before .if4 .left)) (c .fits6 .ensures)
 
 pub counts-fit-spec : {M : Type 1} → statement M
 counts-fit-spec =
     tie.close
     (tie.spec
-    cast-if1
+    fits-requires
     returns
-    cast-if2
+    fits-requires-2
     returns-2
-    cast-if3
+    fits-requires-3
     returns-3
-    cast-if4
+    fits-requires-4
     returns-4
-    cast-if5
-    returns-5
-    returns-6)
+    fits-requires-5
+    returns-5)

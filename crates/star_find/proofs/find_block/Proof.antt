@@ -1,9 +1,7 @@
 -- `find_block` meets its contract: the counts are checked, then the rows of the blocks are looked at.
 use mathlib.Core.Path.{sym, _∙_}
-use native.Mathlib.Omega.{arith}
-use borrow.Author.Needs.{needs}
 use Rattle.star_find.specs.Find.{findBlock, look, countsFit, refused}
-use Rattle.star_find.proofs.Looking.{fits-all}
+use borrow.Author.Needs.{needs}
 use Rattle.star_find.proofs.find_block.Statement.{statement}
 use Rattle.star_find.proofs.find_block.Tie as tie
 
@@ -11,16 +9,14 @@ counts-fit-requires : tie.Need-counts-fit-requires
 counts-fit-requires c κs = search needs
 
 seek-requires : tie.Need-seek-requires
-seek-requires c κs =
-    let f = fits-all (c .before .before .before .before .before .before .before .before .before .args .tokens .now) (c .before .before .before .before .before .before .before .before .before .args .sets .now) (c .before .before .before .before .before .before .before .before .before .args .names .now) (c .before .before .before .before .before .before .before .before .before .args .packets .now) (c .before .before .before .before .before .before .before .before .before .args .values .now) (c .before .before .before .before .before .before .before .before .before .args .counts) (sym (c .before .counts-fit .ensures) ∙ c .if1 .taken) in
-    (f .tokens-fit, (f .sets-fit, (omega arith, omega arith)))
+seek-requires c κs = search needs
 
 returns : tie.Need-returns
-unfolding findBlock look countsFit refused
+unfolding findBlock look countsFit
 returns c = rw (sym (c .before .before .counts-fit .ensures) ∙ c .before .if1 .taken) (c .seek .ensures)
 
 returns-2 : tie.Need-returns-2
-unfolding findBlock look countsFit refused
+unfolding findBlock countsFit refused
 returns-2 c = rw (sym (c .before .counts-fit .ensures) ∙ c .if1 .left)
 
 pub find-block-spec : {M : Type 1} → statement M

@@ -1,78 +1,54 @@
--- `part` meets its contract: the span lies within the file.
-use mathlib.Core.Path.{refl}
-use Prim.Native.Nat.{_+_, _-_, _*_}
-use native.Mathlib.Omega.{arith}
+-- `part` meets its contract: a token row has the content of its row of table 1.
+use mathlib.Core.Path.{sym, _∙_}
+use borrow.Author.Tests.{not-true, not-false}
+use Rattle.star_lex.specs.Found.{isSome}
+use Rattle.star_lex.specs.Table.{orEmpty, startIn}
+use Rattle.star_rows.proofs.Words.{word-row}
+use Rattle.star_find.specs.Find.{contentAt}
+use Rattle.star_find.proofs.Looking.{row-bounds}
 use borrow.Author.Needs.{needs}
-use Rattle.star_find.specs.Find.{wordOf}
-use Rattle.star_find.proofs.Looking.{part-inside}
 use Rattle.star_find.proofs.part.Statement.{statement}
 use Rattle.star_find.proofs.part.Tie as tie
 
-sub-at : tie.Need-sub-at
-sub-at c = (part-inside (c .args .file .now) (c .args .tokens .now) (c .args .count) (c .args .row) (c .pre .1)) .low
-
-mul-at : tie.Need-mul-at
-mul-at c = search needs
-
-add-start : tie.Need-add-start
-add-start c = search needs
-
-mul-start : tie.Need-mul-start
-mul-start c = search needs
-
-shared-slice-read-start : tie.Need-shared-slice-read-start
-shared-slice-read-start c =
-    let p = part-inside (c .before .args .file .now) (c .before .args .tokens .now) (c .before .args .count) (c .before .args .row) (c .before .pre .1) in
-    omega (arith, p .low, p .high, c .before .pre .0)
-
-cast-start : tie.Need-cast-start
-cast-start c = omega (arith, c .shared-slice-known .given ((c .before .args .row - 1) * 3 + 1))
-
-add-end : tie.Need-add-end
-add-end c = search needs
-
-mul-end : tie.Need-mul-end
-mul-end c = search needs
-
-shared-slice-read-end : tie.Need-shared-slice-read-end
-shared-slice-read-end c =
-    let p = part-inside (c .before .before .args .file .now) (c .before .before .args .tokens .now) (c .before .before .args .count) (c .before .before .args .row) (c .before .before .pre .1) in
-    omega (arith, p .low, p .high, c .before .before .pre .0)
-
-cast-end : tie.Need-cast-end
-cast-end c = omega (arith, c .shared-slice-known2 .given ((c .before .before .args .row - 1) * 3 + 2))
+is-row-requires : tie.Need-is-row-requires
+is-row-requires c κs = search needs
 
 sub-result : tie.Need-sub-result
-sub-result c = (part-inside (c .before .before .args .file .now) (c .before .before .args .tokens .now) (c .before .before .args .count) (c .before .before .args .row) (c .before .before .pre .1)) .ordered
+sub-result c = search needs
 
 part-result-start : tie.Need-part-result-start
-part-result-start c = (part-inside (c .before .before .args .file .now) (c .before .before .args .tokens .now) (c .before .before .args .count) (c .before .before .args .row) (c .before .before .pre .1)) .ordered
+part-result-start c = search needs
 
 part-result-end : tie.Need-part-result-end
-part-result-end c = (part-inside (c .before .before .args .file .now) (c .before .before .args .tokens .now) (c .before .before .args .count) (c .before .before .args .row) (c .before .before .pre .1)) .within
+part-result-end c = search needs
 
 returns : tie.Need-returns
-unfolding wordOf
-returns c = (
-  part-inside (c .before .before .before .args .file .now) (c .before .before .before .args .tokens .now) (c .before .before .before .args .count) (c .before .before .before .args .row) (c .before .before .before .pre .1) .content-is,
-  refl,
-)
+unfolding contentAt isSome orEmpty
+returns c = let z = sym (c .before .before .is-row .ensures) ∙ not-true _ (c .before .if1 .taken) in (rw z, rw z)
+
+sub-content : tie.Need-sub-content
+sub-content c = row-bounds _ _ (sym (c .before .is-row .ensures) ∙ not-false _ (c .if1 .left)) .0
+
+cast-content : tie.Need-cast-content
+cast-content c = search needs
+
+content-requires : tie.Need-content-requires
+content-requires c κs = search needs
+
+returns-2 : tie.Need-returns-2
+unfolding contentAt startIn
+returns-2 c = let z = sym (c .before .before .is-row .ensures) ∙ not-false _ (c .before .if1 .left) in (rw z (c .content .ensures .0), rw (z, word-row _ 3 _ 1 (row-bounds _ _ z .0)) (c .content .ensures .1))
 
 pub part-spec : {M : Type 1} → statement M
 part-spec =
     tie.close
     (tie.spec
-    sub-at
-    mul-at
-    add-start
-    mul-start
-    shared-slice-read-start
-    cast-start
-    add-end
-    mul-end
-    shared-slice-read-end
-    cast-end
+    is-row-requires
     sub-result
     part-result-start
     part-result-end
-    returns)
+    returns
+    sub-content
+    cast-content
+    content-requires
+    returns-2)

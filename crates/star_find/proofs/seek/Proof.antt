@@ -4,10 +4,11 @@ use mathlib.Core.Bool.{Bool, cond}
 use mathlib.Core.List.{List}
 use mathlib.Core.Option.{Option}
 use Prim.Native.Nat.{ℕ, _+_, _-_, _≤_, _<_}
-use native.Mathlib.Nat.{le-trans, mul-le-mul-right, sub-zero}
+use native.Mathlib.Nat.{sub-zero}
 use native.Mathlib.Omega.{arith}
 use borrow.Author.Needs.{needs}
-use Rattle.star_find.specs.Find.{seek, isWanted, contentAt, wordOf, matchOf, found, refused}
+use Rattle.star_rows.specs.Rows.{wordOf}
+use Rattle.star_find.specs.Find.{seek, isWanted, contentAt, matchOf, found, refused}
 use Rattle.star_find.specs.declared.Wanted.{Wanted}
 use Rattle.star_find.specs.declared.Found.{Found}
 use Rattle.star_find.specs.declared.Match.{Match}
@@ -46,17 +47,11 @@ abbrev μ-loop : tie.MeasureT-loop
 loop-holds : tie.Need-loop-holds Inv-loop μ-loop
 loop-holds c = (omega arith, from-first (c .before .before .before .before .args .file .now) (c .before .before .before .before .args .tokens .now) (c .before .before .before .before .args .count) (c .before .before .before .before .args .table .now) (c .before .before .before .before .args .rows) (c .before .before .before .before .args .w) (c .before .before .before .before .args .bytes .now))
 
-cast-compare-row : tie.Need-cast-compare-row Inv-loop μ-loop
-cast-compare-row c = search needs
+add-compare-row : tie.Need-add-compare-row Inv-loop μ-loop
+add-compare-row c = omega (arith, c .before .before .before .before .before .before .fits .rows)
 
 compare-row-requires : tie.Need-compare-row-requires Inv-loop μ-loop
-compare-row-requires c κs = (
-  c .before .before .before .before .before .before .pre .0,
-  (
-    le-trans (mul-le-mul-right (c .before .before .before .before .before .before .args .w .width) (let h : c .before .loop .i + 1 ≤ c .before .before .before .before .before .before .args .rows = omega arith in h)) (c .before .before .before .before .before .before .pre .1 .0),
-    c .before .before .before .before .before .before .pre .1 .1,
-  ),
-)
+compare-row-requires c κs = search needs
 
 enum-told : tie.Need-enum-told Inv-loop μ-loop
 enum-told c = search needs
@@ -98,7 +93,7 @@ seek-spec =
     Inv-loop
     μ-loop
     loop-holds
-    cast-compare-row
+    add-compare-row
     compare-row-requires
     enum-told
     returns

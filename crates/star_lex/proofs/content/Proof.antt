@@ -1,11 +1,28 @@
--- `content` meets its contract: each check leaves less of the definition.
-use mathlib.Core.Path.{sym, _∙_}
-use Prim.Native.Nat.{_+_, _*_}
+-- `content` meets its contract: a row that has a content spans it.
+use mathlib.Core.Path.{_≡_, sym, _∙_, ap}
+use mathlib.Core.Bool.{true}
+use Prim.Native.Nat.{_+_, _*_, _≤_}
 use native.Mathlib.Omega.{arith}
-use Rattle.star_lex.proofs.Table.{part-whole, part-backward, part-outside, content-row, content-none}
+use lib.ListN.{length, getD}
+use borrow.Author.Tests.{not-true, not-false}
+use Rattle.star_lex.specs.Found.{isSome}
+use Rattle.star_lex.specs.Table.{contentIn, orEmpty, further}
+use Rattle.star_lex.proofs.Table.{Spans, content-inside, content-whole, start-some, start-none, empty-none}
 use borrow.Author.Needs.{needs}
 use Rattle.star_lex.proofs.content.Statement.{statement}
 use Rattle.star_lex.proofs.content.Tie as tie
+
+abbrev entry : tie.Else1 → tie.Start
+entry c = c .before .before .before .before
+
+has : (c : tie.Else1) → isSome (contentIn (entry c .args .file .now) (entry c .args .tokens .now) (entry c .args .n)) ≡ true
+has c = sym (c .before .has-content .ensures) ∙ not-false _ (c .if1 .left)
+
+inside : (c : tie.Else1) → Spans (entry c .args .file .now) (entry c .args .tokens .now) (entry c .args .n)
+inside c = content-inside _ _ _ (has c)
+
+has-content-requires : tie.Need-has-content-requires
+has-content-requires c κs = search needs
 
 sub-result : tie.Need-sub-result
 sub-result c = search needs
@@ -17,75 +34,56 @@ part-result-end : tie.Need-part-result-end
 part-result-end c = search needs
 
 returns : tie.Need-returns
-returns c = sym (content-none _ _ _ (omega arith))
+returns c = let z = sym (c .before .before .has-content .ensures) ∙ not-true _ (c .before .if1 .taken) in (sym (empty-none _ z), rw (start-none _ _ _ z))
 
 mul-start : tie.Need-mul-start
-mul-start c = search needs
+mul-start c = omega (arith, inside c .row)
 
 add-start : tie.Need-add-start
-add-start c = search needs
+add-start c = omega (arith, inside c .row)
 
 mul-start-2 : tie.Need-mul-start-2
-mul-start-2 c = search needs
+mul-start-2 c = omega (arith, inside c .row)
 
 shared-slice-read-start : tie.Need-shared-slice-read-start
-shared-slice-read-start c = search needs
+shared-slice-read-start c = omega (arith, inside (c .before) .row)
 
 cast-start : tie.Need-cast-start
-cast-start c = omega (arith, c .shared-slice-known .given (c .before .before .args .n * 3 + 1))
+cast-start c = omega (arith, c .shared-slice-known3 .given (entry (c .before) .args .n * 3 + 1))
 
 mul-end : tie.Need-mul-end
-mul-end c = search needs
+mul-end c = omega (arith, inside (c .before) .row)
 
 add-end : tie.Need-add-end
-add-end c = search needs
+add-end c = omega (arith, inside (c .before) .row)
 
 mul-end-2 : tie.Need-mul-end-2
-mul-end-2 c = search needs
+mul-end-2 c = omega (arith, inside (c .before) .row)
 
 shared-slice-read-end : tie.Need-shared-slice-read-end
-shared-slice-read-end c = search needs
+shared-slice-read-end c = omega (arith, inside (c .before .before) .row)
 
 cast-end : tie.Need-cast-end
-cast-end c = omega (arith, c .shared-slice-known2 .given (c .before .before .before .args .n * 3 + 2))
+cast-end c = omega (arith, c .shared-slice-known4 .given (entry (c .before .before) .args .n * 3 + 2))
 
 sub-result-2 : tie.Need-sub-result-2
-sub-result-2 c = search needs
+sub-result-2 c = inside (c .before .before) .ordered
 
 part-result-start-2 : tie.Need-part-result-start-2
-part-result-start-2 c = search needs
+part-result-start-2 c = inside (c .before .before) .ordered
 
 part-result-end-2 : tie.Need-part-result-end-2
-part-result-end-2 c = search needs
+part-result-end-2 c = inside (c .before .before) .within
 
 returns-2 : tie.Need-returns-2
-returns-2 c = sym (content-row _ _ _ (omega arith) ∙ part-backward _ _ _ (c .before .if2 .taken))
-
-sub-result-3 : tie.Need-sub-result-3
-sub-result-3 c = search needs
-
-part-result-start-3 : tie.Need-part-result-start-3
-part-result-start-3 c = search needs
-
-part-result-end-3 : tie.Need-part-result-end-3
-part-result-end-3 c = search needs
-
-returns-3 : tie.Need-returns-3
-returns-3 c = sym (content-row _ _ _ (omega arith) ∙ part-outside _ _ _ (c .before .before .if2 .left) (c .before .if3 .taken))
-
-part-result-start-4 : tie.Need-part-result-start-4
-part-result-start-4 c = search needs
-
-part-result-end-4 : tie.Need-part-result-end-4
-part-result-end-4 c = search needs
-
-returns-4 : tie.Need-returns-4
-returns-4 c = sym (content-row _ _ _ (omega arith) ∙ part-whole _ _ _ (c .before .before .if2 .left) (c .before .if3 .left))
+unfolding orEmpty
+returns-2 c = let z = has (c .before .before .before) in (sym (ap orEmpty (content-whole _ _ _ z)), rw (start-some _ _ _ z))
 
 pub content-spec : {M : Type 1} → statement M
 content-spec =
     tie.close
     (tie.spec
+    has-content-requires
     sub-result
     part-result-start
     part-result-end
@@ -103,11 +101,4 @@ content-spec =
     sub-result-2
     part-result-start-2
     part-result-end-2
-    returns-2
-    sub-result-3
-    part-result-start-3
-    part-result-end-3
-    returns-3
-    part-result-start-4
-    part-result-end-4
-    returns-4)
+    returns-2)

@@ -7,7 +7,7 @@ use Rattle.star_lex.specs.Rules.{today}
 use Rattle.star_lex.specs.Split.{placed, tokensOf}
 use Rattle.star_grammar.specs.Tables.{noRows}
 use Rattle.star_grammar.specs.Machine.{Run, run, start}
-use Rattle.star_unique.specs.Holds.{fileTokens}
+use Rattle.star_lex.specs.Holds.{fileTokens}
 use Rattle.star_read.specs.Read.{Sizes, grammarOf, placeOf}
 use Rattle.star_read.specs.Answer.{words, Ran}
 use Rattle.star_read.specs.declared.Judged.{Judged}

@@ -10,10 +10,11 @@ use Rattle.star_lex.specs.Split.{placed, tokensOf}
 use Rattle.star_lex.specs.Split as Split
 use Rattle.star_lex.specs.Found.{tokensIn}
 use Rattle.star_unique.specs.Repeat.{nothing, firstRepeat}
-use Rattle.star_unique.specs.Holds.{fileTokens}
+use Rattle.star_lex.specs.Holds.{fileTokens}
 use Rattle.star_read.specs.Read.{Outcome, Sizes, fitting, grammarOf}
 use Rattle.star_read.specs.Answer.{answerOf, words, Leaves, Tables}
-use Rattle.star_unique.proofs.Comparing.{compared-accepted, table-holds}
+use Rattle.star_unique.proofs.Comparing.{compared-accepted}
+use Rattle.star_lex.proofs.Held.{table-holds}
 use Rattle.star_read.proofs.Starting.{read-refused, read-after}
 use Rattle.star_read.proofs.read.Statement.{statement}
 use Rattle.star_read.proofs.read.Tie as tie

@@ -7,7 +7,7 @@ use Rattle.star_lex.specs.Split.{placed, tokensOf}
 use Rattle.star_grammar.specs.Tables.{noRows}
 use Rattle.star_grammar.specs.Machine.{run, start}
 use Rattle.star_parse.specs.Parsed.{FourTables, Answers, tables as four}
-use Rattle.star_unique.specs.Holds.{fileTokens}
+use Rattle.star_lex.specs.Holds.{fileTokens}
 use Rattle.star_read.specs.Read.{accepted, fitting, grammarOf}
 use Rattle.star_read.specs.Answer.{answerOf}
 use Rattle.star_read.proofs.Settling.{SameSizes, sizesOf, held-run, answer-ran, outcome-refused, outcome-settled, rows-accepted, cleared-held, leaves-refused, accepted-answer, accepted-leaves}

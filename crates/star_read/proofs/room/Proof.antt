@@ -1,63 +1,54 @@
 -- `room` meets its contract: the tables are tested in their order.
-use Prim.Native.Nat.{_*_}
-use borrow.Author.Needs.{needs}
-use native.Mathlib.Nat.{div-lt-iff-lt-mul, le-div-iff-mul-le}
-use borrow.Author.Tests.{lt-ltb, le-ltb}
-use lib.Dec.{lit<}
+use mathlib.Core.Path.{sym, _∙_}
+use borrow.Author.Tests.{not-true, not-false}
+use Rattle.star_rows.proofs.Words.{too-small, large-enough}
 use Rattle.star_read.specs.Answer.{roomOf}
+use borrow.Author.Needs.{needs}
 use Rattle.star_read.proofs.room.Statement.{statement}
 use Rattle.star_read.proofs.room.Tie as tie
 
-cast-if1 : tie.Need-cast-if1
-cast-if1 c = search needs
+fits-requires : tie.Need-fits-requires
+fits-requires c κs = search needs
 
 returns : tie.Need-returns
 unfolding roomOf
-returns c = rw (lt-ltb (c .before .before .args .sets) (c .before .before .args .rows .sets * 3) (div-lt-iff-lt-mul (lit< tt) .0 (c .if1 .taken)))
+returns c = rw (too-small _ _ _ (sym (c .before .fits2 .ensures) ∙ not-true _ (c .if1 .taken)))
 
-cast-if2 : tie.Need-cast-if2
-cast-if2 c = search needs
+fits-requires-2 : tie.Need-fits-requires-2
+fits-requires-2 c κs = search needs
 
 returns-2 : tie.Need-returns-2
 unfolding roomOf
-returns-2 c = rw (
-  le-ltb (c .before .before .before .before .args .sets) (c .before .before .before .before .args .rows .sets * 3) (le-div-iff-mul-le (lit< tt) .0 (c .before .before .if1 .left)),
-  lt-ltb (c .before .before .before .before .args .names) (c .before .before .before .before .args .rows .names * 4) (div-lt-iff-lt-mul (lit< tt) .0 (c .if2 .taken)),
-)
+returns-2 c = rw (large-enough _ _ _ (sym (c .before .before .before .fits2 .ensures) ∙ not-false _ (c .before .before .if1 .left)), too-small _ _ _ (sym (c .before .fits3 .ensures) ∙ not-true _ (c .if2 .taken)))
 
-cast-if3 : tie.Need-cast-if3
-cast-if3 c = search needs
+fits-requires-3 : tie.Need-fits-requires-3
+fits-requires-3 c κs = search needs
 
 returns-3 : tie.Need-returns-3
 unfolding roomOf
-returns-3 c = rw (
-  le-ltb (c .before .before .before .before .before .before .args .sets) (c .before .before .before .before .before .before .args .rows .sets * 3) (le-div-iff-mul-le (lit< tt) .0 (c .before .before .before .before .if1 .left)),
-  le-ltb (c .before .before .before .before .before .before .args .names) (c .before .before .before .before .before .before .args .rows .names * 4) (le-div-iff-mul-le (lit< tt) .0 (c .before .before .if2 .left)),
-  lt-ltb (c .before .before .before .before .before .before .args .packets) (c .before .before .before .before .before .before .args .rows .packets * 3) (div-lt-iff-lt-mul (lit< tt) .0 (c .if3 .taken)),
-)
+returns-3 c = rw (large-enough _ _ _ (sym (c .before .before .before .before .before .fits2 .ensures) ∙ not-false _ (c .before .before .before .before .if1 .left)), large-enough _ _ _ (sym (c .before .before .before .fits3 .ensures) ∙ not-false _ (c .before .before .if2 .left)), too-small _ _ _ (sym (c .before .fits4 .ensures) ∙ not-true _ (c .if3 .taken)))
 
-cast-if4 : tie.Need-cast-if4
-cast-if4 c = search needs
+fits-requires-4 : tie.Need-fits-requires-4
+fits-requires-4 c κs = search needs
 
 returns-4 : tie.Need-returns-4
 unfolding roomOf
-returns-4 c = rw (
-  le-ltb (c .before .before .before .before .before .before .before .before .args .sets) (c .before .before .before .before .before .before .before .before .args .rows .sets * 3) (le-div-iff-mul-le (lit< tt) .0 (c .before .before .before .before .before .before .if1 .left)),
-  le-ltb (c .before .before .before .before .before .before .before .before .args .names) (c .before .before .before .before .before .before .before .before .args .rows .names * 4) (le-div-iff-mul-le (lit< tt) .0 (c .before .before .before .before .if2 .left)),
-  le-ltb (c .before .before .before .before .before .before .before .before .args .packets) (c .before .before .before .before .before .before .before .before .args .rows .packets * 3) (le-div-iff-mul-le (lit< tt) .0 (c .before .before .if3 .left)),
-  lt-ltb (c .before .before .before .before .before .before .before .before .args .values) (c .before .before .before .before .before .before .before .before .args .rows .values * 3) (div-lt-iff-lt-mul (lit< tt) .0 (c .if4 .taken)),
-)
+returns-4 c = rw (large-enough _ _ _ (sym (c .before .before .before .before .before .before .before .fits2 .ensures) ∙ not-false _ (c .before .before .before .before .before .before .if1 .left)), large-enough _ _ _ (sym (c .before .before .before .before .before .fits3 .ensures) ∙ not-false _ (c .before .before .before .before .if2 .left)), large-enough _ _ _ (sym (c .before .before .before .fits4 .ensures) ∙ not-false _ (c .before .before .if3 .left)), too-small _ _ _ (sym (c .before .fits5 .ensures) ∙ not-true _ (c .if4 .taken)))
 
 returns-5 : tie.Need-returns-5
 unfolding roomOf
-returns-5 c = rw (
-  le-ltb (c .before .before .before .before .before .before .before .before .args .sets) (c .before .before .before .before .before .before .before .before .args .rows .sets * 3) (le-div-iff-mul-le (lit< tt) .0 (c .before .before .before .before .before .before .if1 .left)),
-  le-ltb (c .before .before .before .before .before .before .before .before .args .names) (c .before .before .before .before .before .before .before .before .args .rows .names * 4) (le-div-iff-mul-le (lit< tt) .0 (c .before .before .before .before .if2 .left)),
-  le-ltb (c .before .before .before .before .before .before .before .before .args .packets) (c .before .before .before .before .before .before .before .before .args .rows .packets * 3) (le-div-iff-mul-le (lit< tt) .0 (c .before .before .if3 .left)),
-  le-ltb (c .before .before .before .before .before .before .before .before .args .values) (c .before .before .before .before .before .before .before .before .args .rows .values * 3) (le-div-iff-mul-le (lit< tt) .0 (c .if4 .left)),
-)
+returns-5 c = rw (large-enough _ _ _ (sym (c .before .before .before .before .before .before .before .fits2 .ensures) ∙ not-false _ (c .before .before .before .before .before .before .if1 .left)), large-enough _ _ _ (sym (c .before .before .before .before .before .fits3 .ensures) ∙ not-false _ (c .before .before .before .before .if2 .left)), large-enough _ _ _ (sym (c .before .before .before .fits4 .ensures) ∙ not-false _ (c .before .before .if3 .left)), large-enough _ _ _ (sym (c .before .fits5 .ensures) ∙ not-false _ (c .if4 .left)))
 
 pub room-spec : {M : Type 1} → statement M
 room-spec =
     tie.close
-    (tie.spec cast-if1 returns cast-if2 returns-2 cast-if3 returns-3 cast-if4 returns-4 returns-5)
+    (tie.spec
+    fits-requires
+    returns
+    fits-requires-2
+    returns-2
+    fits-requires-3
+    returns-3
+    fits-requires-4
+    returns-4
+    returns-5)

@@ -4,6 +4,7 @@ use Prim.Native.Nat.{_-_, _≤_, _<_}
 use native.Mathlib.Nat.{mod-lt}
 use native.Mathlib.Omega.{arith}
 use lib.ListN.{length, drop}
+use Rattle.star_text.specs.Names.{key}
 use Rattle.star_unique.specs.Chain.{mix, bucketOf}
 use Rattle.star_unique.proofs.Marks.{mix-next, mix-end}
 use Rattle.star_unique.proofs.bucket.Statement.{statement}
@@ -16,7 +17,7 @@ abbrev μ-loop : tie.MeasureT-loop
 μ-loop sort bytes h₀ i₀ h i = length bytes - i
 
 loop-holds : tie.Need-loop-holds Inv-loop μ-loop
-unfolding bucketOf
+unfolding bucketOf key
 loop-holds c = (omega arith, mod-lt _ (omega arith), refl)
 
 mul-h : tie.Need-mul-h Inv-loop μ-loop

@@ -3,10 +3,10 @@ use mathlib.Core.Path.{sym, _∙_, ap}
 use native.Mathlib.Omega.{arith}
 use borrow.Author.Needs.{needs}
 use Rattle.star_unique.specs.Repeat.{nothing}
-use Rattle.star_unique.specs.Holds.{fileTokens}
+use Rattle.star_lex.specs.Holds.{fileTokens}
 use Rattle.star_unique.specs.Chain.{tableOf}
 use Rattle.star_unique.proofs.Clean.{repeat-within}
-use Rattle.star_unique.proofs.Held.{count-tokens}
+use Rattle.star_lex.proofs.Held.{count-tokens}
 use Rattle.star_unique.proofs.Marking.{heads-start}
 use Rattle.star_unique.proofs.first_repeat.Statement.{statement}
 use Rattle.star_unique.proofs.first_repeat.Tie as tie

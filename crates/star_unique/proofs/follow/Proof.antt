@@ -2,7 +2,7 @@
 use mathlib.Core.Path.{sym, _∙_, subst}
 use Prim.Native.Nat.{_-_}
 use native.Mathlib.Omega.{arith}
-use Rattle.star_unique.specs.Holds.{tokenAt}
+use Rattle.star_lex.specs.Holds.{tokenAt}
 use Rattle.star_unique.proofs.Marks.{Span, Follows, follow-start, follow-end, turn-hit, turn-miss, turn-less, turn-span}
 use Rattle.star_unique.proofs.follow.Statement.{statement}
 use Rattle.star_unique.proofs.follow.Tie as tie

@@ -4,7 +4,7 @@ use Prim.Native.Nat.{_-_}
 use native.Mathlib.Omega.{arith}
 use borrow.Author.Needs.{needs}
 use lib.ListN.{length}
-use Rattle.star_unique.proofs.Held.{count-small}
+use Rattle.star_lex.proofs.Held.{count-small}
 use Rattle.star_unique.proofs.Marking.{Between, between-start, room-here, between-taken, between-next, between-end, visited-taken, visited-new}
 use Rattle.star_unique.proofs.mark.Statement.{statement}
 use Rattle.star_unique.proofs.mark.Tie as tie

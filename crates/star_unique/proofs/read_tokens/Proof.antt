@@ -10,7 +10,7 @@ use Rattle.star_lex.proofs.Answers.{answer-refused, in-accepted}
 use Rattle.star_unique.specs.Repeat.{nothing, firstRepeat}
 use Rattle.star_unique.specs.Compared.{comparedOf}
 use Rattle.star_unique.specs.declared.Compared.{Compared}
-use Rattle.star_unique.proofs.Comparing.{accepted-tokens, table-holds}
+use Rattle.star_lex.proofs.Held.{accepted-tokens, table-holds}
 use borrow.Author.Needs.{needs}
 use Rattle.star_unique.proofs.read_tokens.Statement.{statement}
 use Rattle.star_unique.proofs.read_tokens.Tie as tie

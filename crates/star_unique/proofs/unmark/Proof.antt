@@ -6,7 +6,7 @@ use borrow.Author.Needs.{needs}
 use lib.ListN.{length, length-set}
 use Rattle.star_unique.specs.Chain.{tableOf}
 use Rattle.star_unique.specs.Marked.{Marked}
-use Rattle.star_unique.proofs.Held.{count-small}
+use Rattle.star_lex.proofs.Held.{count-small}
 use Rattle.star_unique.proofs.Unmarking.{marked-room, unmark-one, unmarked}
 use Rattle.star_unique.proofs.unmark.Statement.{statement}
 use Rattle.star_unique.proofs.unmark.Tie as tie

@@ -4,9 +4,9 @@ use Prim.Native.Nat.{ℕ, _*_}
 use native.Mathlib.Omega.{arith}
 use lib.ListN.{getD}
 use borrow.Author.Needs.{needs}
-use Rattle.star_unique.specs.Holds.{tokenAt}
+use Rattle.star_lex.specs.Holds.{tokenAt}
 use Rattle.star_unique.specs.Chain.{sortOf, sortAt, floorOf}
-use Rattle.star_unique.proofs.Held.{count-small}
+use Rattle.star_lex.proofs.Held.{count-small}
 use Rattle.star_unique.proofs.Marking.{sort-here, visit-plain, visit-taken, visit-new, bucket-small, last-here, last-small, sort-small}
 use Rattle.star_unique.proofs.visit.Statement.{statement}
 use Rattle.star_unique.proofs.visit.Tie as tie

@@ -1,7 +1,7 @@
 -- `put_plain` meets its contract: what follows the plain form is cleared.
 use borrow.Author.Needs.{needs}
 use Rattle.star_lex.specs.Plain.{plainOf}
-use Rattle.star_unique.specs.Holds.{fileTokens}
+use Rattle.star_lex.specs.Holds.{fileTokens}
 use Rattle.star_write.proofs.Putting.{fill-clear}
 use Rattle.star_write.proofs.put_plain.Statement.{statement}
 use Rattle.star_write.proofs.put_plain.Tie as tie

@@ -1,4 +1,4 @@
--- `unescape` is safe and ends: a symbol has a byte or more of the line and gives one byte, so the file has no more bytes than the line.
+-- `unescape` is safe and ends: a symbol has a byte or more of the line.
 use mathlib.Core.Path.{_≡_}
 use Prim.Native.Nat.{_≤_, _-_}
 use borrow.Author.Needs.{needs}
@@ -7,7 +7,7 @@ use Rattle.star_cases.proofs.notation.unescape.Statement.{statement}
 use Rattle.star_cases.proofs.notation.unescape.Tie as tie
 
 abbrev Inv-loop : tie.InvT-loop
-Inv-loop line file₀ at₀ count₀ file at count = (count ≤ at) × (at ≤ length line) × (length file ≡ length file₀)
+Inv-loop line file₀ at₀ count₀ file at count = (at ≤ length line) × (length file ≡ length file₀)
 
 abbrev μ-loop : tie.MeasureT-loop
 μ-loop line file₀ at₀ count₀ file at count = length line - at
@@ -36,8 +36,8 @@ value-requires c κs = search needs
 put-requires : tie.Need-put-requires Inv-loop μ-loop
 put-requires c κs = search needs
 
-add-count : tie.Need-add-count Inv-loop μ-loop
-add-count c = search needs
+wrapping-add-u32-requires : tie.Need-wrapping-add-u32-requires Inv-loop μ-loop
+wrapping-add-u32-requires c κs = search needs
 
 loop-less : tie.Need-loop-less Inv-loop μ-loop
 loop-less c = search needs
@@ -65,7 +65,7 @@ unescape-spec =
     part-value-end
     value-requires
     put-requires
-    add-count
+    wrapping-add-u32-requires
     loop-less
     loop-again
     same-length

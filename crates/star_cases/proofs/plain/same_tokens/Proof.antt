@@ -1,36 +1,26 @@
--- `same_tokens` is safe and ends: each turn goes one row on.
+-- `same_tokens` is safe and ends: each turn goes one token on.
 use Prim.Native.Nat.{_-_}
 use borrow.Author.Needs.{needs}
-use lib.ListN.{length}
 use Rattle.star_cases.proofs.plain.same_tokens.Statement.{statement}
 use Rattle.star_cases.proofs.plain.same_tokens.Tie as tie
 
 abbrev Inv-loop : tie.InvT-loop
-Inv-loop file rows form back at₀ at = Unit {0}
+Inv-loop file rows form back n₀ n = Unit {0}
 
 abbrev μ-loop : tie.MeasureT-loop
-μ-loop file rows form back at₀ at = length rows - at
-
-returns : tie.Need-returns Inv-loop μ-loop
-returns c = search needs
+μ-loop file rows form back n₀ n = 341 - n
 
 loop-holds : tie.Need-loop-holds Inv-loop μ-loop
 loop-holds c = search needs
 
-behind-requires : tie.Need-behind-requires Inv-loop μ-loop
-behind-requires c κs = search needs
-
-behind-requires-2 : tie.Need-behind-requires-2 Inv-loop μ-loop
-behind-requires-2 c κs = search needs
-
 same-token-requires : tie.Need-same-token-requires Inv-loop μ-loop
 same-token-requires c κs = search needs
 
-returns-2 : tie.Need-returns-2 Inv-loop μ-loop
-returns-2 c = search needs
+returns : tie.Need-returns Inv-loop μ-loop
+returns c = search needs
 
-add-at : tie.Need-add-at Inv-loop μ-loop
-add-at c = search needs
+add-n : tie.Need-add-n Inv-loop μ-loop
+add-n c = search needs
 
 loop-less : tie.Need-loop-less Inv-loop μ-loop
 loop-less c = search needs
@@ -38,8 +28,8 @@ loop-less c = search needs
 loop-again : tie.Need-loop-again Inv-loop μ-loop
 loop-again c = search needs
 
-returns-3 : tie.Need-returns-3 Inv-loop μ-loop
-returns-3 c = search needs
+returns-2 : tie.Need-returns-2 Inv-loop μ-loop
+returns-2 c = search needs
 
 pub same-tokens-spec : {M : Type 1} → statement M
 same-tokens-spec =
@@ -47,13 +37,10 @@ same-tokens-spec =
     (tie.spec
     Inv-loop
     μ-loop
-    returns
     loop-holds
-    behind-requires
-    behind-requires-2
     same-token-requires
-    returns-2
-    add-at
+    returns
+    add-n
     loop-less
     loop-again
-    returns-3)
+    returns-2)

@@ -1,4 +1,4 @@
--- `escaped` is safe and ends: each turn writes one byte.
+-- `escaped` is safe and ends: each turn goes one byte on.
 use Prim.Native.Nat.{_-_}
 use borrow.Author.Needs.{needs}
 use lib.ListN.{length}
@@ -6,19 +6,19 @@ use Rattle.star_cases.proofs.print.escaped.Statement.{statement}
 use Rattle.star_cases.proofs.print.escaped.Tie as tie
 
 abbrev Inv-loop : tie.InvT-loop
-Inv-loop bytes at₀ at = Unit {0}
+Inv-loop bytes size at₀ at = Unit {0}
 
 abbrev μ-loop : tie.MeasureT-loop
-μ-loop bytes at₀ at = length bytes - at
+μ-loop bytes size at₀ at = length bytes - at
 
 loop-holds : tie.Need-loop-holds Inv-loop μ-loop
 loop-holds c = search needs
 
-shared-slice-read-symbol : tie.Need-shared-slice-read-symbol Inv-loop μ-loop
-shared-slice-read-symbol c = search needs
+shared-slice-read-symbol-if : tie.Need-shared-slice-read-symbol-if Inv-loop μ-loop
+shared-slice-read-symbol-if c = search needs
 
-symbol-requires : tie.Need-symbol-requires Inv-loop μ-loop
-symbol-requires c κs = search needs
+symbol-if-requires : tie.Need-symbol-if-requires Inv-loop μ-loop
+symbol-if-requires c κs = search needs
 
 add-at : tie.Need-add-at Inv-loop μ-loop
 add-at c = search needs
@@ -39,8 +39,8 @@ escaped-spec =
     Inv-loop
     μ-loop
     loop-holds
-    shared-slice-read-symbol
-    symbol-requires
+    shared-slice-read-symbol-if
+    symbol-if-requires
     add-at
     loop-less
     loop-again

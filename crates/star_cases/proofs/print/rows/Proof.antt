@@ -1,4 +1,4 @@
--- `rows` is safe and ends: each turn writes one word.
+-- `rows` is safe and ends: each turn goes one word on.
 use Prim.Native.Nat.{_-_}
 use borrow.Author.Needs.{needs}
 use lib.ListN.{length}
@@ -6,25 +6,22 @@ use Rattle.star_cases.proofs.print.rows.Statement.{statement}
 use Rattle.star_cases.proofs.print.rows.Tie as tie
 
 abbrev Inv-loop : tie.InvT-loop
-Inv-loop words width at₀ at = Unit {0}
+Inv-loop words size width at₀ at = Unit {0}
 
 abbrev μ-loop : tie.MeasureT-loop
-μ-loop words width at₀ at = length words - at
+μ-loop words size width at₀ at = length words - at
 
 loop-holds : tie.Need-loop-holds Inv-loop μ-loop
 loop-holds c = search needs
 
-separator-requires : tie.Need-separator-requires Inv-loop μ-loop
-separator-requires c κs = search needs
+mul-cell : tie.Need-mul-cell Inv-loop μ-loop
+mul-cell c = search needs
 
-mul-number : tie.Need-mul-number Inv-loop μ-loop
-mul-number c = search needs
+shared-slice-read-cell : tie.Need-shared-slice-read-cell Inv-loop μ-loop
+shared-slice-read-cell c = search needs
 
-shared-slice-read-number : tie.Need-shared-slice-read-number Inv-loop μ-loop
-shared-slice-read-number c = search needs
-
-number-requires : tie.Need-number-requires Inv-loop μ-loop
-number-requires c κs = search needs
+cell-requires : tie.Need-cell-requires Inv-loop μ-loop
+cell-requires c κs = search needs
 
 add-at : tie.Need-add-at Inv-loop μ-loop
 add-at c = search needs
@@ -45,10 +42,9 @@ rows-spec =
     Inv-loop
     μ-loop
     loop-holds
-    separator-requires
-    mul-number
-    shared-slice-read-number
-    number-requires
+    mul-cell
+    shared-slice-read-cell
+    cell-requires
     add-at
     loop-less
     loop-again

@@ -1,24 +1,20 @@
 -- `number` is safe and ends: each turn goes one byte on.
 use Prim.Native.Nat.{_-_}
 use borrow.Author.Needs.{needs}
-use lib.ListN.{length}
 use Rattle.star_cases.proofs.words.number.Statement.{statement}
 use Rattle.star_cases.proofs.words.number.Tie as tie
 
 abbrev Inv-loop : tie.InvT-loop
-Inv-loop line n₀ at₀ n at = Unit {0}
+Inv-loop line end n₀ at₀ n at = Unit {0}
 
 abbrev μ-loop : tie.MeasureT-loop
-μ-loop line n₀ at₀ n at = length line - at
+μ-loop line end n₀ at₀ n at = end - at
+
+before-blank-requires : tie.Need-before-blank-requires Inv-loop μ-loop
+before-blank-requires c κs = search needs
 
 loop-holds : tie.Need-loop-holds Inv-loop μ-loop
 loop-holds c = search needs
-
-shared-slice-read-if1 : tie.Need-shared-slice-read-if1 Inv-loop μ-loop
-shared-slice-read-if1 c = search needs
-
-returns : tie.Need-returns Inv-loop μ-loop
-returns c = search needs
 
 shared-slice-read-with-digit : tie.Need-shared-slice-read-with-digit Inv-loop μ-loop
 shared-slice-read-with-digit c = search needs
@@ -35,8 +31,8 @@ loop-less c = search needs
 loop-again : tie.Need-loop-again Inv-loop μ-loop
 loop-again c = search needs
 
-returns-2 : tie.Need-returns-2 Inv-loop μ-loop
-returns-2 c = search needs
+returns : tie.Need-returns Inv-loop μ-loop
+returns c = search needs
 
 pub number-spec : {M : Type 1} → statement M
 number-spec =
@@ -44,12 +40,11 @@ number-spec =
     (tie.spec
     Inv-loop
     μ-loop
+    before-blank-requires
     loop-holds
-    shared-slice-read-if1
-    returns
     shared-slice-read-with-digit
     with-digit-requires
     add-at
     loop-less
     loop-again
-    returns-2)
+    returns)

@@ -5,8 +5,8 @@ use Prim.Native.Nat.{_+_, _-_, _*_, _≤_}
 use native.Mathlib.Omega.{arith}
 use lib.ListN.{length, getD, take}
 use Rattle.star_text.specs.Bytes.{mostBytes}
-use Rattle.star_unique.specs.Holds.{fileTokens}
-use Rattle.star_unique.proofs.Held.{count-small}
+use Rattle.star_lex.specs.Holds.{fileTokens}
+use Rattle.star_lex.proofs.Held.{count-small}
 use Rattle.star_list.specs.Listing.{blockCodes, codeLines}
 use Rattle.star_list.specs.Put.{Put}
 use Rattle.star_list.proofs.Putting.{put-none, put-then}
@@ -39,7 +39,7 @@ content-requires c κs = tt
 -- the turn's token
 turn : (c : tie.After-content Inv-loop μ-loop)
     → Next (c .before .before .before .before .before .before .before .args .file .now) (c .before .before .before .loop .n) (getD (c .before .before .before .before .before .before .before .args .tokens .now) (c .before .before .before .loop .n * 3) 0) (c .content .result .now)
-turn c = next _ _ _ (c .before .before .before .before .before .before .before .pre) (c .before .before .before .loop .n) (omega arith) _ (c .content .ensures)
+turn c = next _ _ _ (c .before .before .before .before .before .before .before .pre) (c .before .before .before .loop .n) (omega arith) _ (c .content .ensures .0)
 
 put-code-requires : tie.Need-put-code-requires Inv-loop μ-loop
 put-code-requires c κs =

@@ -6,8 +6,8 @@ use Prim.Native.Nat.{_-_, _*_, _≤_}
 use native.Mathlib.Omega.{arith}
 use lib.ListN.{length, getD}
 use Rattle.star_lex.specs.Plain.{plainOf}
-use Rattle.star_unique.specs.Holds.{fileTokens}
-use Rattle.star_unique.proofs.Held.{count-small}
+use Rattle.star_lex.specs.Holds.{fileTokens}
+use Rattle.star_lex.proofs.Held.{count-small}
 use Rattle.star_write.specs.Put.{tokenOf}
 use Rattle.star_write.proofs.Lengths.{short-plain}
 use Rattle.star_write.proofs.Prefix.{plainFirst, Next, next, plain-all}
@@ -42,7 +42,7 @@ token-length-requires c κs = tt
 -- the turn's token
 turn : (c : tie.After-content Inv-loop μ-loop)
     → Next (c .before .before .before .before .before .before .args .file .now) (c .before .before .before .loop .n) (getD (c .before .before .before .before .before .before .args .tokens .now) (c .before .before .before .loop .n * 3) 0) (c .content .result .now)
-turn c = next _ _ _ (c .before .before .before .before .before .before .pre) (c .before .before .before .loop .n) (omega arith) _ (c .content .ensures)
+turn c = next _ _ _ (c .before .before .before .before .before .before .pre) (c .before .before .before .loop .n) (omega arith) _ (c .content .ensures .0)
 
 -- its length
 short : (c : tie.After-token-length Inv-loop μ-loop) → c .token-length .result ≤ 1048585

@@ -7,7 +7,7 @@ use native.Mathlib.Omega.{arith}
 use borrow.Rule.Slice.PartMut.{same-len-mid}
 use lib.ListN.{length, getD, length-take, length-drop}
 use Rattle.star_lex.specs.Plain.{plainOf}
-use Rattle.star_unique.specs.Holds.{fileTokens}
+use Rattle.star_lex.specs.Holds.{fileTokens}
 use Rattle.star_write.specs.Put.{Filled}
 use Rattle.star_write.proofs.Putting.{fill-none, fill-rest}
 use Rattle.star_write.proofs.Prefix.{plainFirst, Next, next, plain-all}
@@ -40,7 +40,7 @@ content-requires c κs = tt
 -- the turn's token
 turn : (c : tie.After-content Inv-loop μ-loop)
     → Next (c .before .before .before .before .before .before .before .args .file .now) (c .before .before .before .loop .n) (getD (c .before .before .before .before .before .before .before .args .tokens .now) (c .before .before .before .loop .n * 3) 0) (c .content .result .now)
-turn c = next _ _ _ (c .before .before .before .before .before .before .before .pre .0) (c .before .before .before .loop .n) (omega arith) _ (c .content .ensures)
+turn c = next _ _ _ (c .before .before .before .before .before .before .before .pre .0) (c .before .before .before .loop .n) (omega arith) _ (c .content .ensures .0)
 
 sub-put-token : tie.Need-sub-put-token Inv-loop μ-loop
 sub-put-token c = omega (arith, turn c .within, turn c .sum, c .before .before .before .loop .inv .1 .counts, c .before .before .before .before .before .before .before .pre .1)

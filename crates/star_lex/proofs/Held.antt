@@ -1,31 +1,25 @@
 -- What a table that holds a file's tokens says of each: its words are those of its row, and its span is a part of the file, as every token of a
 -- split is.
 use mathlib.Core.Path.{_≡_, refl, sym, _∙_, ap}
-use mathlib.Core.List.{List, [], _∷_}
+use mathlib.Core.List.{List, [], _∷_, map}
+use mathlib.Core.Option.{some}
 use Prim.Native.Nat.{ℕ, zero, suc, _+_, _-_, _*_, _≤_, _<_}
 use native.Mathlib.Nat.{add-zero}
 use native.Mathlib.Omega.{arith}
+use borrow.Author.Tests.{le-leb}
 use lib.ListN.{length, getD, take, drop, length-map, List·getD-map}
 use Rattle.star_text.specs.Bytes.{mostBytes}
 use Rattle.star_lex.specs.Tokens.{Placed, Each, opening, tokenRow}
 use Rattle.star_lex.specs.Split.{Split, refused, accepted, tokensOf, placed}
-use Rattle.star_lex.specs.Table.{contentIn}
+use Rattle.star_lex.specs.Table.{contentIn, orEmpty, firstByte}
+use Rattle.star_lex.specs.Found.{tokensIn, tableOf}
 use Rattle.star_lex.proofs.Table.{part-whole, content-row}
 use Rattle.star_lex.proofs.Parts.{PartOf, split-parts, split-count, contentEnd}
+use Rattle.star_lex.proofs.Each.{each-at}
+use Rattle.star_lex.proofs.Splitting.{row-wide}
+use Rattle.star_lex.proofs.Answers.{tokens-accepted, in-fits}
 use Rattle.star_rows.proofs.Held.{held-word}
-use Rattle.star_unique.specs.Holds.{Holds, fileTokens, tokenAt}
-use Rattle.star_unique.specs.Repeat.{Taken, takes}
-use Rattle.star_unique.specs.Seen.{takesAll}
-use Rattle.star_unique.proofs.Clean.{takes-next}
-
-pub each-at {ℓ} : {A : Type ℓ} (P : A → Type 0) (xs : List A) (n : ℕ) (d : A) → n < length xs → Each P xs → P (getD xs n d)
-each-at P [] n d h e = absurd (omega arith)
-each-at P (x ∷ xs) zero d h e = e .0
-each-at P (x ∷ xs) (suc n) d h e = each-at P xs n d (omega arith) (e .1)
-
-row-wide : (p : Placed) → length (tokenRow p) ≡ 3
-unfolding tokenRow
-row-wide p = refl
+use Rattle.star_lex.specs.Holds.{Holds, fileTokens, tokenAt}
 
 tokens-parts : (file : List ℕ) → Each (PartOf file) (placed (tokensOf file))
 unfolding placed
@@ -48,7 +42,7 @@ pub count-small : (file words : List ℕ) (count : ℕ) → Holds file words cou
 count-small file words count h = omega (arith, few-tokens file, h .small, h .count-is)
 
 -- no token, which stands where there is none
-abbrev nowhere : Placed
+abbrev pub nowhere : Placed
 nowhere = record { at = 0; token = record { kind = 0; content = [] } }
 
 -- the words of a row, and the part of the file that it spans
@@ -58,20 +52,8 @@ pub record Row (file words : List ℕ) (n : ℕ) : Type 0 where
   pub within : getD words (n * 3 + 2) 0 ≤ length file
   pub content : take (getD words (n * 3 + 2) 0 - getD words (n * 3 + 1) 0) (drop (getD words (n * 3 + 1) 0) file) ≡ tokenAt file n .content
 
--- a kind that is read is the token's
-pub kind-is : {file words : List ℕ} {n : ℕ} → Row file words n → (k : ℕ) → getD words (n * 3) 0 ≡ k → tokenAt file n .kind ≡ k
-kind-is r k e = sym (r .kind) ∙ e
-
-pub kind-not : {file words : List ℕ} {n : ℕ} → Row file words n → (k : ℕ) → (getD words (n * 3) 0 ≡ k → ⊥) → tokenAt file n .kind ≡ k → ⊥
-kind-not r k d e = d (r .kind ∙ e)
-
 pub count-tokens : (file words : List ℕ) (count : ℕ) → Holds file words count → count ≡ length (fileTokens file)
 count-tokens file words count h = h .count-is ∙ sym (length-map (placed (tokensOf file)) (λ p. p .token))
-
--- what is taken after one token more of the file
-pub takes-token : (file words : List ℕ) (count : ℕ) → Holds file words count → (s : Taken) (n : ℕ) → n < count
-    → takesAll s (take (n + 1) (fileTokens file)) ≡ takes (takesAll s (take n (fileTokens file))) (tokenAt file n)
-takes-token file words count h s n below = takes-next s (fileTokens file) n _ (omega (arith, count-tokens file words count h))
 
 module _ (file words : List ℕ) (count : ℕ) (h : Holds file words count) (n : ℕ) (below : n < count) where
   row-word : (k : ℕ) → k < 3 → getD words (n * 3 + k) 0 ≡ getD (tokenRow (getD (placed (tokensOf file)) n nowhere)) k 0
@@ -94,6 +76,39 @@ module _ (file words : List ℕ) (count : ℕ) (h : Holds file words count) (n :
       }
 
   -- the content that the row spans
-  pub held-content : contentIn file words n ≡ tokenAt file n .content
-  held-content =
-      content-row file words n (omega (arith, h .room, h .count-is)) ∙ part-whole file _ _ (held-row .ordered) (held-row .within) ∙ held-row .content
+  pub held-some : contentIn file words n ≡ some (tokenAt file n .content)
+  held-some =
+      content-row file words n (omega (arith, h .room, h .count-is)) ∙ part-whole file _ _ (held-row .ordered) (held-row .within) ∙ ap some (held-row .content)
+
+  pub held-content : orEmpty (contentIn file words n) ≡ tokenAt file n .content
+  unfolding orEmpty
+  held-content = ap orEmpty held-some
+
+  -- the place of its token
+  pub held-first : firstByte words n ≡ getD (placed (tokensOf file)) n nowhere .at
+  unfolding firstByte tokenRow
+  held-first =
+      let p : Placed = getD (placed (tokensOf file)) n nowhere in
+      let kind : getD words (n * 3) 0 ≡ p .token .kind = ap (λ i. getD words i 0) (sym (add-zero (n * 3))) ∙ row-word 0 (omega arith) in
+      let start : getD words (n * 3 + 1) 0 ≡ p .at + length (opening (p .token .kind)) = row-word 1 (omega arith) in
+      rw (le-leb (n * 3 + 3) (length words) (omega (arith, h .room, h .count-is)), kind, start) (omega arith)
+
+module _ (file : List ℕ) (words : ℕ) (ps : List Placed) (e : tokensIn file words ≡ accepted ps) where
+  -- the tokens of an accepted file
+  pub accepted-tokens : fileTokens file ≡ map (λ p. p .token) ps
+  unfolding placed
+  accepted-tokens = ap (λ s. map (λ p. p .token) (placed s)) (tokens-accepted file words ps e)
+
+  -- table 1 holds them
+  pub table-holds : (table : List ℕ) (count : ℕ) → count ≡ length ps → length table ≡ words → table ≡ tableOf (tokensIn file words) words
+      → Holds file table count
+  unfolding tableOf placed
+  table-holds table count c l t =
+      let p : placed (tokensOf file) ≡ ps = ap placed (tokens-accepted file words ps e) in
+      let f = in-fits file words ps e in
+      record {
+        small = f .0;
+        rows = t ∙ ap (λ q. tableOf q words) e ∙ rw (p, l);
+        room = rw (p, l) (f .1);
+        count-is = c ∙ ap length (sym p);
+      }
