@@ -7,11 +7,9 @@ use star_read::Reading;
 use star_write::Written;
 ghost use mathlib.Core.Path.{_≡_};
 ghost use lib.ListN.{length};
-ghost use Rattle.star_read.specs.Read.{readOf};
-ghost use Rattle.star_read.specs.Answer.{answerOf, tables, sizes, Leaves};
+ghost use Rattle.star_read.specs.Answer.{tables, Reads};
 ghost use Rattle.star_find.specs.Find.{lent, findBlock, findFrame, findName, valueAt, valueSpan};
-ghost use Rattle.star_write.specs.Write.{writeOf};
-ghost use Rattle.star_write.specs.Answer.{answerOf as written·answerOf, readingOf, outputOf};
+ghost use Rattle.star_write.specs.Answer.{Writes};
 
 // Reads a file into the five tables. On a refusal the counts and every word of every table are 0.
 #[no_mangle]
@@ -23,12 +21,9 @@ pub extern "C" fn star_read(
     packets: &mut [u32],
     values: &mut [u32],
 ) -> Reading
-    ensures { λ r. ⌜ r ≡ answerOf (readOf (now (file .entry))
-        (sizes (tables (now (tokens .entry)) (now (sets .entry)) (now (names .entry)) (now (packets .entry)) (now (values .entry))))) ⌝ }
-    ensures { λ _. ⌜ Leaves (readOf (now (file .entry))
-        (sizes (tables (now (tokens .entry)) (now (sets .entry)) (now (names .entry)) (now (packets .entry)) (now (values .entry)))))
-        (sizes (tables (now (tokens .entry)) (now (sets .entry)) (now (names .entry)) (now (packets .entry)) (now (values .entry))))
-        (tables (now (tokens .exit)) (now (sets .exit)) (now (names .exit)) (now (packets .exit)) (now (values .exit))) ⌝ }
+    ensures { λ r. ⌜ Reads (now (file .entry))
+        (tables (now (tokens .entry)) (now (sets .entry)) (now (names .entry)) (now (packets .entry)) (now (values .entry)))
+        (tables (now (tokens .exit)) (now (sets .exit)) (now (names .exit)) (now (packets .exit)) (now (values .exit))) r ⌝ }
 {
     star_read::read(file, tokens, sets, names, packets, values)
 }
@@ -158,17 +153,10 @@ pub extern "C" fn star_write(
     values: &mut [u32],
     out: &mut [u8],
 ) -> Written
-    ensures { λ r. ⌜ r ≡ written·answerOf (writeOf (now (file .entry))
-        (sizes (tables (now (tokens .entry)) (now (sets .entry)) (now (names .entry)) (now (packets .entry)) (now (values .entry))))
-        (length (now (out .entry)))) ⌝ }
-    ensures { λ _. ⌜ Leaves (readingOf (writeOf (now (file .entry))
-        (sizes (tables (now (tokens .entry)) (now (sets .entry)) (now (names .entry)) (now (packets .entry)) (now (values .entry))))
-        (length (now (out .entry)))))
-        (sizes (tables (now (tokens .entry)) (now (sets .entry)) (now (names .entry)) (now (packets .entry)) (now (values .entry))))
-        (tables (now (tokens .exit)) (now (sets .exit)) (now (names .exit)) (now (packets .exit)) (now (values .exit))) ⌝ }
-    ensures { λ _. ⌜ now (out .exit) ≡ outputOf (writeOf (now (file .entry))
-        (sizes (tables (now (tokens .entry)) (now (sets .entry)) (now (names .entry)) (now (packets .entry)) (now (values .entry))))
-        (length (now (out .entry)))) (length (now (out .entry))) ⌝ }
+    ensures { λ r. ⌜ Writes (now (file .entry))
+        (tables (now (tokens .entry)) (now (sets .entry)) (now (names .entry)) (now (packets .entry)) (now (values .entry)))
+        (tables (now (tokens .exit)) (now (sets .exit)) (now (names .exit)) (now (packets .exit)) (now (values .exit)))
+        (now (out .entry)) (now (out .exit)) r ⌝ }
 {
     star_write::write(file, tokens, sets, names, packets, values, out)
 }

@@ -9,6 +9,7 @@ use native.Mathlib.Nat.{add-zero}
 use native.Mathlib.Omega.{arith}
 use borrow.Author.Tests.{le-leb}
 use lib.ListN.{length, getD, length-map, List·getD-map}
+use Rattle.star_text.specs.Outcome.{accepted}
 use Rattle.star_lex.specs.Rules.{today}
 use Rattle.star_rows.specs.Rows.{holding, wordOf}
 use Rattle.star_rows.proofs.Held.{holding-room, held-word}
@@ -16,7 +17,6 @@ use Rattle.star_rows.proofs.Words.{word-row}
 use Rattle.star_text.specs.Names.{key}
 use Rattle.star_lex.specs.Tokens.{Placed, tokenRow}
 use Rattle.star_lex.specs.Split.{tokensOf, placed}
-use Rattle.star_lex.specs.Split as Split
 use Rattle.star_lex.proofs.Splitting.{row-wide}
 use Rattle.star_grammar.specs.Tables.{Rows, rowsOf, setWords, nameWords, packetWords, valueWords}
 use Rattle.star_grammar.specs.Tree.{File}
@@ -25,11 +25,11 @@ use Rattle.star_grammar.proofs.Widths.{set-wide, name-wide, packet-wide, value-
 use Rattle.star_grammar.proofs.RowsOf.{contentIn, nameIn, setIn, fileNames, fileSets, IsToken, Inside, TreeRows, tree-rows}
 use Rattle.star_lex.specs.Holds.{tokenAt}
 use Rattle.star_lex.proofs.Held.{nowhere, Row, held-row, held-some}
-use Rattle.star_read.specs.Read.{accepted, Sizes, tokensOnly, readOf}
+use Rattle.star_read.specs.Read.{Sizes, tokensOnly, readOf}
 use Rattle.star_read.proofs.Usable.{today-usable}
 use Rattle.star_read.proofs.Demand3.{rows-of-reading, one-reading}
 use Rattle.star_read.proofs.Accepted.{accepted-holds}
-use Rattle.star_read.specs.Answer.{answerOf, tablesOf}
+use Rattle.star_read.specs.Answer.{readAnswer, tablesOf}
 use Rattle.star_find.specs.Find.{Lent, fits, isRow, contentAt, countsFit, spanAt}
 use Rattle.star_find.specs.Demands.{lentAfter, countsAfter, contentOf, kindOf, spanOf}
 use Rattle.star_find.specs.declared.Counts.{Counts}
@@ -55,13 +55,13 @@ counted ps rows = record {
 }
 
 -- they are what reading leaves and answers
-module _ (file : List ℕ) (words : Sizes) (ps : List Placed) (rows : Rows) (e : readOf file words ≡ accepted ps rows) where
+module _ (file : List ℕ) (words : Sizes) (ps : List Placed) (rows : Rows) (e : readOf file words ≡ accepted (ps, rows)) where
   pub lent-left : lentAfter file words ≡ left file words ps rows
   unfolding tablesOf left
   lent-left = rw e
 
   pub counts-counted : countsAfter file words ≡ counted ps rows
-  unfolding answerOf counted
+  unfolding readAnswer counted
   counts-counted = rw e
 
 -- the counts fit, and a number from 1 to a count is a row
@@ -100,8 +100,8 @@ content-in ps row =
     ap (λ cs. getD cs (row - 1) []) (map-map (λ t. key (t .content)) (λ p. p .token) ps ∙ sym (map-map key (λ p. p .token .content) ps))
     ∙ List·getD-map key (map (λ p. p .token .content) ps) (row - 1) []
 
-module _ (file : List ℕ) (words : Sizes) (ps : List Placed) (rows : Rows) (e : readOf file words ≡ accepted ps rows) where
-  tokens-split : tokensOf file ≡ Split.accepted ps
+module _ (file : List ℕ) (words : Sizes) (ps : List Placed) (rows : Rows) (e : readOf file words ≡ accepted (ps, rows)) where
+  tokens-split : tokensOf file ≡ accepted ps
   tokens-split = rows-of-reading today today-usable file words ps rows e .0
 
   module _ (row : ℕ) (is : IsToken (length ps) row) where
@@ -147,10 +147,10 @@ pub record RowsAfter (ps : List Placed) (rows : Rows) (f : File) : Type 0 where
   pub sets : map (setIn (tokensOnly ps)) (rows .sets) ≡ fileSets 0 f
   pub inside : Inside (length ps) (rows .sets) (rows .names) (rows .values)
 
-pub rows-after : (file : List ℕ) (words : Sizes) (ps : List Placed) (rows : Rows) → readOf file words ≡ accepted ps rows
+pub rows-after : (file : List ℕ) (words : Sizes) (ps : List Placed) (rows : Rows) → readOf file words ≡ accepted (ps, rows)
     → (r : Reading (tokensOnly ps)) → RowsAfter ps rows (r .tree)
 rows-after file words ps rows e r =
-    let k : (tokensOf file ≡ Split.accepted ps) × (s : Reading (tokensOnly ps)) × (rows ≡ rowsOf (s .tree)) = rows-of-reading today today-usable file words ps rows e in
+    let k : (tokensOf file ≡ accepted ps) × (s : Reading (tokensOnly ps)) × (rows ≡ rowsOf (s .tree)) = rows-of-reading today today-usable file words ps rows e in
     let q : rows ≡ rowsOf (r .tree) = k .2 ∙ ap rowsOf (one-reading today (tokensOnly ps) (k .1) r) in
     let t : TreeRows (r .tree) = tree-rows (r .tree) in
     rw q (record {

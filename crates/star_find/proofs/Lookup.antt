@@ -7,6 +7,7 @@ use mathlib.Core.Logic.{_↔_}
 use Prim.Native.Nat.{ℕ, _-_, _<_}
 use native.Mathlib.Omega.{arith}
 use lib.ListN.{length, getD, length-map, List·getD-map}
+use Rattle.star_text.specs.Outcome.{accepted}
 use Rattle.star_lex.specs.Rules.{today}
 use Rattle.star_rows.specs.Rows.{holding}
 use Rattle.star_text.specs.Names.{key}
@@ -16,7 +17,7 @@ use Rattle.star_grammar.specs.Tables.{SetRow, NameRow, Rows, setWords, nameWord
 use Rattle.star_grammar.proofs.Widths.{name-wide, set-wide}
 use Rattle.star_grammar.proofs.RowsOf.{contentIn, nameIn, setIn, fileSets, IsToken}
 use Rattle.star_lex.proofs.Each.{each-at}
-use Rattle.star_read.specs.Read.{accepted, Sizes, tokensOnly, readOf}
+use Rattle.star_read.specs.Read.{Sizes, tokensOnly, readOf}
 use Rattle.star_read.proofs.Usable.{today-usable}
 use Rattle.star_read.proofs.Demand3.{rows-of-reading}
 use Rattle.star_find.specs.Find.{rowThere, findName, findBlock, findFrame, isRow, look, refused}
@@ -106,7 +107,7 @@ module _ (file : List ℕ) (words : Sizes) (ps : List Placed) (rows : Rows) wher
   find-frame set code = rw (counts-fit file words ps rows)
 
 -- the rows that each search answers, and what they are in the tree
-module _ (file : List ℕ) (words : Sizes) (ps : List Placed) (rows : Rows) (e : readOf file words ≡ accepted ps rows) (f : File) (k : RowsAfter ps rows f) where
+module _ (file : List ℕ) (words : Sizes) (ps : List Placed) (rows : Rows) (e : readOf file words ≡ accepted (ps, rows)) (f : File) (k : RowsAfter ps rows f) where
   names-sought : (set : ℕ) (name : List ℕ)
       → Sought (λ i. HasName ps set name (getD (rows .names) i noName)) (length (rows .names)) (looked-names file words ps rows set name)
   unfolding looked-names left counted nameWords

@@ -10,6 +10,7 @@ use native.Mathlib.Omega.{arith}
 use borrow.Author.Tests.{ne-eqb}
 use lib.Dec.{eqb}
 use lib.ListN.{length, getD, length-append}
+use Rattle.star_text.specs.Outcome.{accepted}
 use Rattle.star_rows.specs.Rows.{wordOf, holding}
 use Rattle.star_rows.proofs.Words.{word-held}
 use Rattle.star_lex.specs.Tokens.{Placed, tokenRow}
@@ -19,7 +20,7 @@ use Rattle.star_grammar.specs.Tables.{ValueRow, Rows, valueWords}
 use Rattle.star_grammar.proofs.Widths.{value-wide}
 use Rattle.star_grammar.proofs.RowsOf.{IsToken, Inside}
 use Rattle.star_lex.proofs.Each.{each-at}
-use Rattle.star_read.specs.Read.{accepted, Sizes, readOf}
+use Rattle.star_read.specs.Read.{Sizes, readOf}
 use Rattle.star_find.specs.Find.{isRow, contentAt, rowThere, kth, missing, located, locate, valueOf, valueAt, valuePart, spanAt, valueSpan}
 use Rattle.star_find.specs.Demands.{contentOf, kindOf, spanOf, ofName}
 use Rattle.star_find.specs.declared.Located.{Located}
@@ -98,7 +99,7 @@ placed v = record { refusal = 0; packet = v .packet; token = v .value }
 isValue : (words : Sizes) (rows : Rows) (name row : ℕ) → Bool
 isValue words rows name row = eqb (wordOf (holding valueWords (rows .values) (words .values)) 3 row 0) name
 
-module _ (file : List ℕ) (words : Sizes) (ps : List Placed) (rows : Rows) (e : readOf file words ≡ accepted ps rows)
+module _ (file : List ℕ) (words : Sizes) (ps : List Placed) (rows : Rows) (e : readOf file words ≡ accepted (ps, rows))
     (inside : Inside (length ps) (rows .sets) (rows .names) (rows .values)) (name : ℕ) (low : 1 ≤ name) (high : name ≤ length (rows .names)) where
   values-from : RowsFrom (isValue words rows name) name 0 (rows .values)
   unfolding isValue valueWords

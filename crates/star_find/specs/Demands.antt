@@ -6,13 +6,14 @@ use mathlib.Core.List.{List, [], _∷_, _++_, map, flatMap, List·Memᴰ}
 use Prim.Native.Nat.{ℕ, suc, _+_, _-_, _≤_, _<_}
 use lib.Dec.{eqb}
 use lib.ListN.{length, getD, take, drop}
+use Rattle.star_text.specs.Outcome.{accepted}
 use Rattle.star_text.specs.Names.{key}
 use Rattle.star_lex.specs.Tokens.{Placed, opening}
 use Rattle.star_grammar.specs.Tree.{Member, own, framed, Block, File}
 use Rattle.star_grammar.specs.Tables.{Rows, ValueRow}
 use Rattle.star_grammar.specs.Reading.{Reading, entryNames, ownNames, frameCodes}
-use Rattle.star_read.specs.Read.{accepted, Sizes, tokensOnly, readOf}
-use Rattle.star_read.specs.Answer.{answerOf, Tables, tablesOf}
+use Rattle.star_read.specs.Read.{Sizes, tokensOnly, readOf}
+use Rattle.star_read.specs.Answer.{readAnswer, Tables, tablesOf}
 use Rattle.star_read.specs.declared.Reading as Answer
 use Rattle.star_find.specs.Find.{Lent, lent, findName, findBlock, findFrame, valueAt, valuePart, valueSpan}
 use Rattle.star_find.specs.declared.Counts.{Counts}
@@ -28,7 +29,7 @@ lentAfter file words =
 
 abbrev pub countsAfter : List ℕ → Sizes → Counts
 countsAfter file words =
-    let r : Answer.Reading = answerOf (readOf file words) in
+    let r : Answer.Reading = readAnswer (readOf file words) in
     record { tokens = r .tokens; sets = r .sets; names = r .names; packets = r .packets; values = r .values }
 
 -- the own names of each set of a tree, sets in the order of their first tokens: a block, then its frames
@@ -61,7 +62,7 @@ pub record FirstName (ps : List Placed) (rows : Rows) (set : ℕ) (name : List �
 -- demand 3, fifth sentence: after acceptance, for any set number and any name, lookup by name succeeds exactly when there is a set of that
 -- number and it holds the name, and answers the first row with an equal name
 abbrev pub LookupByName : Type 0
-LookupByName = (file : List ℕ) (words : Sizes) (ps : List Placed) (rows : Rows) → readOf file words ≡ accepted ps rows
+LookupByName = (file : List ℕ) (words : Sizes) (ps : List Placed) (rows : Rows) → readOf file words ≡ accepted (ps, rows)
     → (r : Reading (tokensOnly ps)) (set : ℕ) (name : List ℕ)
     → ((findName (lentAfter file words) (countsAfter file words) set name .refusal ≡ 0) ↔ HoldsName (r .tree) set name)
     × (findName (lentAfter file words) (countsAfter file words) set name .refusal ≡ 0
@@ -77,7 +78,7 @@ pub record SetWith (ps : List Placed) (rows : Rows) (kind parent : ℕ) (code : 
 
 -- block lookup succeeds exactly when a block of that code is in the reading
 abbrev pub LookupBlock : Type 0
-LookupBlock = (file : List ℕ) (words : Sizes) (ps : List Placed) (rows : Rows) → readOf file words ≡ accepted ps rows
+LookupBlock = (file : List ℕ) (words : Sizes) (ps : List Placed) (rows : Rows) → readOf file words ≡ accepted (ps, rows)
     → (r : Reading (tokensOnly ps)) (code : List ℕ)
     → ((findBlock (lentAfter file words) (countsAfter file words) code .refusal ≡ 0) ↔ List·Memᴰ (key code) (map (λ b. key (b .heading .content)) (r .tree)))
     × (findBlock (lentAfter file words) (countsAfter file words) code .refusal ≡ 0
@@ -98,7 +99,7 @@ pub record HoldsFrame (f : File) (set : ℕ) (code : List ℕ) : Type 0 where
   pub holds : List·Memᴰ (key code) (getD (flatMap blockCodes f) (set - 1) [])
 
 abbrev pub LookupFrame : Type 0
-LookupFrame = (file : List ℕ) (words : Sizes) (ps : List Placed) (rows : Rows) → readOf file words ≡ accepted ps rows
+LookupFrame = (file : List ℕ) (words : Sizes) (ps : List Placed) (rows : Rows) → readOf file words ≡ accepted (ps, rows)
     → (r : Reading (tokensOnly ps)) (set : ℕ) (code : List ℕ)
     → ((findFrame (lentAfter file words) (countsAfter file words) set code .refusal ≡ 0) ↔ HoldsFrame (r .tree) set code)
     × (findFrame (lentAfter file words) (countsAfter file words) set code .refusal ≡ 0
@@ -121,7 +122,7 @@ spanOf ps row =
 -- the values of a name row, k = 1, 2, .., are those of the reading in file order, each with its packet and the content of its token, where that
 -- lies; past the last there is none
 abbrev pub ValuesInOrder : Type 0
-ValuesInOrder = (file : List ℕ) (words : Sizes) (ps : List Placed) (rows : Rows) → readOf file words ≡ accepted ps rows
+ValuesInOrder = (file : List ℕ) (words : Sizes) (ps : List Placed) (rows : Rows) → readOf file words ≡ accepted (ps, rows)
     → (name : ℕ) → 1 ≤ name → name ≤ length (rows .names)
     → ((before : List ValueRow) (v : ValueRow) (behind : List ValueRow) → ofName name (rows .values) ≡ before ++ (v ∷ behind)
     → (valueAt (lentAfter file words) (countsAfter file words) name (suc (length before)) ≡ record { refusal = 0; kind = kindOf ps (v .value); packet = v .packet })

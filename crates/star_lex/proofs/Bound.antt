@@ -10,7 +10,8 @@ use lib.ListN.{length, drop}
 use Rattle.star_text.specs.Bytes.{isTerminate, isWhite, run}
 use Rattle.star_lex.specs.Rules.{Rules, today}
 use Rattle.star_lex.specs.Tokens.{Token, Placed, dataWord, saveWord, loopWord, stopWord, globalWord}
-use Rattle.star_lex.specs.Split.{Lexeme, gap, token, faulty, accepted, after, either, whiteNext, quoted, field, limited, blockWord, frameWord, alone, nameWord, referenceWord, wordLexeme, wordFrom, quotedLexeme, fieldLexeme, lexeme, tokensBy, tokensOf}
+use Rattle.star_text.specs.Outcome.{accepted}
+use Rattle.star_lex.specs.Split.{Lexeme, gap, token, faulty, after, either, whiteNext, quoted, field, limited, blockWord, frameWord, alone, nameWord, referenceWord, wordLexeme, wordFrom, quotedLexeme, fieldLexeme, lexeme, tokensBy, tokensOf}
 use Rattle.star_lex.proofs.Cases.{impossible, cond-cases}
 use Rattle.star_lex.proofs.Steps.{Steps, ends, within, passes, takes, accepted-steps}
 

@@ -1,19 +1,10 @@
 -- Cases of a computed choice, each with the equation that it leaves: by matching on what is tested.
 use mathlib.Core.Path.{_≡_, refl}
-use mathlib.Core.Bool.{Bool, true, false, cond}
 use mathlib.Core.List.{List}
 use mathlib.Core.Option.{Option, none, some}
 use Prim.Native.Nat.{ℕ}
-use native.Mathlib.Omega.{arith}
+pub use Rattle.star_text.proofs.Cases.{impossible, cond-cases}
 use Rattle.star_lex.specs.Split.{Lexeme, either}
-
--- for what `cc` refutes: `impossible cc`
-pub impossible {ℓ} : {P : Type ℓ} → _≡_ {A = ℕ} 0 1 → P
-impossible z = absurd (omega arith)
-
-pub cond-cases {ℓ κ} : {A : Type ℓ} {P : Type κ} (t : Bool) (x y z : A) → cond t x y ≡ z → (t ≡ true → x ≡ z → P) → (t ≡ false → y ≡ z → P) → P
-cond-cases true x y z e f g = f refl e
-cond-cases false x y z e f g = g refl e
 
 pub either-cases {κ} : {P : Type κ} (o : Option (List ℕ)) (f : List ℕ → Lexeme) (other z : Lexeme) → either o f other ≡ z
     → ((cs : List ℕ) → o ≡ some cs → f cs ≡ z → P) → (o ≡ none → other ≡ z → P) → P

@@ -9,8 +9,10 @@ use native.Mathlib.Omega.{arith}
 use borrow.Author.Tests.{le-leb}
 use lib.ListN.{length, getD, take, drop, length-map, List·getD-map}
 use Rattle.star_text.specs.Bytes.{mostBytes}
+use Rattle.star_lex.specs.Rules.{today}
 use Rattle.star_lex.specs.Tokens.{Placed, Each, opening, tokenRow}
-use Rattle.star_lex.specs.Split.{Split, refused, accepted, tokensOf, placed}
+use Rattle.star_text.specs.Outcome.{refused, accepted}
+use Rattle.star_lex.specs.Split.{Split, tokensOf, placed}
 use Rattle.star_lex.specs.Table.{contentIn, orEmpty, firstByte}
 use Rattle.star_lex.specs.Found.{tokensIn, tableOf}
 use Rattle.star_lex.proofs.Table.{part-whole, content-row}
@@ -105,10 +107,10 @@ module _ (file : List ℕ) (words : ℕ) (ps : List Placed) (e : tokensIn file w
   unfolding tableOf placed
   table-holds table count c l t =
       let p : placed (tokensOf file) ≡ ps = ap placed (tokens-accepted file words ps e) in
-      let f = in-fits file words ps e in
+      let f = in-fits today file words ps e in
       record {
         small = f .0;
         rows = t ∙ ap (λ q. tableOf q words) e ∙ rw (p, l);
-        room = rw (p, l) (f .1);
+        room = rw (p, l) (f .2);
         count-is = c ∙ ap length (sym p);
       }

@@ -12,7 +12,8 @@ use lib.Seq.{drop-drop, drop-append-seam, take-append-seam}
 use Rattle.star_text.specs.Bytes.{isAllowed, all}
 use Rattle.star_lex.specs.Rules.{Rules, today}
 use Rattle.star_lex.specs.Tokens.{Token, Placed, Each, opening, dataWord, saveWord, loopWord, stopWord, globalWord}
-use Rattle.star_lex.specs.Split.{accepted, tokensBy, tokensOf}
+use Rattle.star_text.specs.Outcome.{accepted}
+use Rattle.star_lex.specs.Split.{tokensBy, tokensOf}
 use Rattle.star_lex.specs.WellFormed.{FormedBy, block, frame, frameEnd, loop, stop, name, word, reference, single, double, text, global}
 use Rattle.star_text.proofs.Bytes.{all-tail}
 use Rattle.star_lex.proofs.Lexemes.{TokenAt, lexeme-token}

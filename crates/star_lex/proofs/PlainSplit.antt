@@ -8,14 +8,15 @@ use Prim.Native.Nat.{ℕ, suc, _+_, _≤_}
 use native.Mathlib.Nat.{add-suc, suc-add, add-zero, zero-add}
 use native.Mathlib.Numerals.{add-one}
 use native.Mathlib.Omega.{arith}
-use borrow.Author.Tests.{le-leb, le-ltb, eqb-true}
+use borrow.Author.Tests.{le-leb, eqb-true}
 use lib.Dec.{eqb}
 use lib.ListN.{length, length-append}
 use lib.Seq.{drop-append-add}
 use Rattle.star_text.specs.Bytes.{isBlank, isTerminate, isWhite, isPrintable, isAllowed, all, firstRefused}
 use Rattle.star_lex.specs.Rules.{Rules, today}
 use Rattle.star_lex.specs.Tokens.{Token, Placed, Each, opening, dataWord, saveWord, loopWord, stopWord, globalWord}
-use Rattle.star_lex.specs.Split.{token, accepted, after, starts, whiteNext, quoted, limited, blockWord, frameWord, alone, nameWord, referenceWord, either, wordLexeme, wordFrom, quotedLexeme, fieldLexeme, lexeme, moreOf, before, enter, split, tokensBy, tokensOf}
+use Rattle.star_text.specs.Outcome.{accepted, then, need}
+use Rattle.star_lex.specs.Split.{token, after, starts, whiteNext, quoted, limited, blockWord, frameWord, alone, nameWord, referenceWord, either, wordLexeme, wordFrom, quotedLexeme, fieldLexeme, lexeme, moreOf, before, enter, split, tokensBy, tokensOf}
 use Rattle.star_lex.specs.Plain.{closing, indent, plainToken, plainOf}
 use Rattle.star_lex.specs.WellFormed.{FormedBy, WellFormed, Ordinary, quotable, fieldable, block, frame, frameEnd, loop, stop, name, word, reference, single, double, text, global}
 use Rattle.star_text.proofs.Bytes.{eqb-comm, printable-not-white, printable-allowed, not-white-not-terminate, all-head, all-tail, all-append, all-cond, all-implies, run-append, run-all}
@@ -215,7 +216,7 @@ split-plain rules t at rest (indented e r) =
 
 split-plainOf : (rules : Rules) (ts : List Token) (at : ℕ) → Each (FormedBy rules) ts
     → (ps : List Placed) × (split rules 0 true at (plainOf ts) ≡ accepted ps) × (map (λ p. p .token) ps ≡ ts)
-unfolding plainOf flatMap split before
+unfolding plainOf flatMap split before then
 split-plainOf rules [] at ws = ([], refl, refl)
 split-plainOf rules (t ∷ ts) at ws =
     let (ps, e, h) = split-plainOf rules ts (at + length (plainToken t)) (ws .1) in
@@ -261,10 +262,10 @@ allowed-plainOf rules [] ws = refl
 allowed-plainOf rules (t ∷ ts) ws = rw (all-append isAllowed, allowed-plain rules (ws .0), allowed-plainOf rules ts (ws .1))
 
 pub lex-plain-by : (rules : Rules) (ts : List Token) → Each (FormedBy rules) ts → (ps : List Placed) × (tokensBy rules (plainOf ts) ≡ accepted ps) × (map (λ p. p .token) ps ≡ ts)
-unfolding tokensBy firstRefused
+unfolding tokensBy firstRefused need
 lex-plain-by rules ts ws =
     let (ps, e, h) = split-plainOf rules ts 0 ws in
-    (ps, rw (run-all isAllowed (plainOf ts) (allowed-plainOf rules ts ws), le-ltb (length (plainOf ts)) (length (plainOf ts)) (omega arith)) e, h)
+    (ps, rw (run-all isAllowed (plainOf ts) (allowed-plainOf rules ts ws), le-leb (length (plainOf ts)) (length (plainOf ts)) (omega arith)) e, h)
 
 pub lex-plain : (ts : List Token) → Each WellFormed ts → (ps : List Placed) × (tokensOf (plainOf ts) ≡ accepted ps) × (map (λ p. p .token) ps ≡ ts)
 lex-plain = lex-plain-by today

@@ -16,7 +16,8 @@ use Rattle.star_text.specs.Bytes.{isBlank, isTerminate, isWhite, run}
 use Rattle.star_text.proofs.Run.{run-length}
 use Rattle.star_lex.specs.Rules.{today}
 use Rattle.star_lex.specs.Tokens.{Token, Placed, opening, tokenRow}
-use Rattle.star_lex.specs.Split.{Lexeme, gap, token, faulty, Split, refused, accepted, whiteNext, quoted, field, quotedLexeme, fieldLexeme, wordLexeme, wordFrom, lexeme, moreOf, before, enter, split}
+use Rattle.star_text.specs.Outcome.{refused, accepted, then}
+use Rattle.star_lex.specs.Split.{Lexeme, gap, token, faulty, Split, whiteNext, quoted, field, quotedLexeme, fieldLexeme, wordLexeme, wordFrom, lexeme, moreOf, before, enter, split}
 use Rattle.star_lex.specs.Found.{foundAt}
 use Rattle.star_lex.specs.declared.Found.the-variants.{Gap, Token as FoundToken, Fault}
 use Rattle.star_lex.proofs.Cases.{impossible}
@@ -68,12 +69,12 @@ all-before-snoc [] p s = refl
 all-before-snoc (q ∷ ps) p s = ap (before q) (all-before-snoc ps p s)
 
 pub all-before-refused : (ps : List Placed) (n place : ℕ) → allBefore ps (refused n place) ≡ refused n place
-unfolding before
+unfolding before then
 all-before-refused [] n place = refl
 all-before-refused (p ∷ ps) n place = ap (before p) (all-before-refused ps n place)
 
 pub all-before-accepted : (ps : List Placed) → allBefore ps (accepted []) ≡ accepted ps
-unfolding before
+unfolding before then
 all-before-accepted [] = refl
 all-before-accepted (p ∷ ps) = ap (before p) (all-before-accepted ps)
 
@@ -132,7 +133,7 @@ lexeme-within line b bs =
     n = length bs
 
 before-refused : (p : Placed) (s : Split) (n place : ℕ) → before p s ≡ refused n place → s ≡ refused n place
-unfolding before
+unfolding before then
 before-refused p (refused m q) n place e = e
 before-refused p (accepted ps) n place e = impossible cc
 

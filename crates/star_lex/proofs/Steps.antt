@@ -4,15 +4,17 @@ use mathlib.Core.Path.{_≡_, refl}
 use mathlib.Core.Bool.{Bool, true, false}
 use mathlib.Core.List.{List, [], _∷_}
 use Prim.Native.Nat.{ℕ, zero, suc}
-use borrow.Author.Tests.{ltb-false}
-use lib.Dec.{ltb}
+use borrow.Author.Tests.{leb-true}
+use lib.Dec.{leb}
 use lib.ListN.{length}
 use Rattle.star_text.specs.Bytes.{isTerminate, isAllowed, all, run, firstRefused}
 use Rattle.star_lex.specs.Rules.{Rules}
 use Rattle.star_lex.specs.Tokens.{Token, Placed}
-use Rattle.star_lex.specs.Split.{Lexeme, gap, token, faulty, Split, accepted, refused, lexeme, moreOf, before, enter, split, tokensBy}
+use Rattle.star_text.specs.Outcome.{accepted, refused, then, need}
+use Rattle.star_text.proofs.Outcome.{need-accepted}
+use Rattle.star_lex.specs.Split.{Lexeme, gap, token, faulty, Split, lexeme, moreOf, before, enter, split, tokensBy}
 use Rattle.star_text.proofs.Bytes.{all-of-run}
-use Rattle.star_lex.proofs.Cases.{impossible, cond-cases}
+use Rattle.star_lex.proofs.Cases.{impossible}
 
 pub data Steps (rules : Rules) : ℕ → Bool → ℕ → List ℕ → List Placed → Type 0 where
   ends : {skip : ℕ} {line : Bool} {at : ℕ} → Steps rules skip line at [] []
@@ -23,7 +25,7 @@ pub data Steps (rules : Rules) : ℕ → Bool → ℕ → List ℕ → List Plac
       → Steps rules more (isTerminate b) (suc at) bs ps → Steps rules zero line at (b ∷ bs) (record { at = at; token = t } ∷ ps)
 
 before-accepted : (p : Placed) (s : Split) (ps : List Placed) → before p s ≡ accepted ps → (qs : List Placed) × (s ≡ accepted qs) × (ps ≡ p ∷ qs)
-unfolding before
+unfolding before then
 before-accepted p (refused n place) ps e = impossible cc
 before-accepted p (accepted qs) ps e = (qs, refl, cc)
 
@@ -45,10 +47,8 @@ steps rules (suc skip) line at (b ∷ bs) ps e = within (steps rules skip false 
 pub accepted-allowed : (rules : Rules) (file : List ℕ) (ps : List Placed) → tokensBy rules file ≡ accepted ps → all isAllowed file ≡ true
 unfolding tokensBy firstRefused
 accepted-allowed rules file ps e =
-    cond-cases (ltb (length (run isAllowed file)) (length file)) _ _ _ e (λ k h. impossible cc)
-    (λ k h. all-of-run isAllowed file (ltb-false (length (run isAllowed file)) (length file) k))
+    all-of-run isAllowed file (leb-true _ _ (need-accepted (leb (length file) (length (run isAllowed file))) 2 _ _ ps e .0))
 
 pub accepted-steps : (rules : Rules) (file : List ℕ) (ps : List Placed) → tokensBy rules file ≡ accepted ps → Steps rules 0 true 0 file ps
-unfolding tokensBy firstRefused
-accepted-steps rules file ps e =
-    cond-cases (ltb (length (run isAllowed file)) (length file)) _ _ _ e (λ k h. impossible cc) (λ k h. steps rules 0 true 0 file ps h)
+unfolding tokensBy
+accepted-steps rules file ps e = steps rules 0 true 0 file ps (need-accepted (leb (length file) (firstRefused file)) 2 _ _ ps e .1)

@@ -1,43 +1,49 @@
 -- What the functions of this crate answer, in terms of the split.
-use mathlib.Core.Bool.{Bool, true, false, cond}
+use mathlib.Core.Path.{_≡_}
+use mathlib.Core.Bool.{Bool, true, false}
 use mathlib.Core.List.{List}
 use mathlib.Core.Option.{Option, none, some}
-use Prim.Native.Nat.{ℕ, _+_, _*_}
+use Prim.Native.Nat.{ℕ, _+_}
 use lib.Dec.{leb}
 use lib.ListN.{length, replicate}
 use Rattle.star_rows.specs.Widths.{tokenWidth}
 use Rattle.star_text.specs.Bytes.{mostBytes}
-use Rattle.star_rows.specs.Rows.{holding}
+use Rattle.star_rows.specs.Rows.{holding, hasRoom}
 use Rattle.star_lex.specs.Rules.{Rules, today}
-use Rattle.star_lex.specs.Tokens.{opening, tokenRow}
-use Rattle.star_lex.specs.Split.{Lexeme, gap, token, faulty, Split, refused, accepted, tokensBy}
+use Rattle.star_lex.specs.Tokens.{Placed, opening, tokenRow}
+use Rattle.star_text.specs.Outcome.{refused, accepted, then, need, refusalOf, placeOf}
+use Rattle.star_lex.specs.Split.{Lexeme, gap, token, faulty, Split, tokensBy, placed}
 use Rattle.star_lex.specs.declared.Found.{Found}
 use Rattle.star_lex.specs.declared.Found.the-variants.{Gap, Token as FoundToken, Fault}
 use Rattle.star_lex.specs.declared.Tokens.{Tokens}
 use Rattle.star_lex.specs.declared.word.Word.{Word}
 use Rattle.star_lex.specs.declared.word.Word.the-variants.{Kind, Ill}
 
--- 1, then 2 over the whole file, then the first faulty token of 3 to 6; then 7 for table 1, of so many words
-unfoldable pub fitting : ℕ → Split → Split
-fitting words (refused n place) = refused n place
-fitting words (accepted ps) = cond (leb (length ps * tokenWidth) words) (accepted ps) (refused 7 1)
+-- 7 for table 1, of so many words
+unfoldable pub tokensFit : (words : ℕ) → List Placed → Split
+tokensFit words ps = need (hasRoom (length ps) tokenWidth words) 7 1 (accepted ps)
 
+-- 1, then 2 over the whole file, then the first faulty token of 3 to 6; then 7
 unfoldable pub tokensInBy : (rules : Rules) → List ℕ → (words : ℕ) → Split
-tokensInBy rules file words = cond (leb (length file) mostBytes) (fitting words (tokensBy rules file)) (refused 1 0)
+tokensInBy rules file words = need (leb (length file) mostBytes) 1 0 (then (tokensBy rules file) (tokensFit words))
 
 -- by today's rules
 abbrev pub tokensIn : List ℕ → (words : ℕ) → Split
 tokensIn file words = tokensInBy today file words
 
 -- refusal, place and number of tokens
-unfoldable pub answerOf : Split → Tokens
-answerOf (refused n place) = record { refusal = n; place = place; count = 0 }
-answerOf (accepted ps) = record { refusal = 0; place = 0; count = length ps }
+unfoldable pub splitAnswer : Split → Tokens
+splitAnswer s = record { refusal = refusalOf s; place = placeOf s; count = length (placed s) }
 
 -- table 1, of so many words
 unfoldable pub tableOf : Split → (words : ℕ) → List ℕ
 tableOf (refused n place) words = replicate words 0
 tableOf (accepted ps) words = holding tokenRow ps words
+
+-- the contract of splitting: the answer, and every word of table 1
+pub record Splits (file before after : List ℕ) (r : Tokens) : Type 0 where
+  pub answer : r ≡ splitAnswer (tokensIn file (length before))
+  pub table : after ≡ tableOf (tokensIn file (length before)) (length before)
 
 -- a lexeme at a place: where it ends; of a token its kind, and start and end of its content
 unfoldable pub foundAt : ℕ → Lexeme → Found

@@ -3,8 +3,9 @@ use mathlib.Core.Bool.{Bool, true, false, cond, not, _&&_}
 use mathlib.Core.List.{List, [], _∷_}
 use mathlib.Core.Option.{Option, none, some, Option·map}
 use Prim.Native.Nat.{ℕ, zero, suc, _+_}
-use lib.Dec.{eqb, leb, ltb}
+use lib.Dec.{eqb, leb}
 use lib.ListN.{length, drop}
+use Rattle.star_text.specs.Outcome.{Outcome, refused, accepted, then, need}
 use Rattle.star_text.specs.Bytes.{isTerminate, isWhite, run, firstRefused}
 use Rattle.star_lex.specs.Rules.{Rules, today}
 use Rattle.star_lex.specs.Tokens.{Token, Placed, dataWord, saveWord, loopWord, stopWord, globalWord}
@@ -16,9 +17,8 @@ pub data Lexeme : Type 0 where
   faulty : (number : ℕ) → Lexeme
 
 -- what the split of a file gives: refusal and place, or the tokens
-pub data Split : Type 0 where
-  refused : (number place : ℕ) → Split
-  accepted : List Placed → Split
+abbrev pub Split : Type 0
+Split = Outcome (List Placed)
 
 -- what follows a first part, where the list begins with it
 unfoldable pub after : List ℕ → List ℕ → Option (List ℕ)
@@ -123,8 +123,7 @@ moreOf (faulty n) = 0
 
 -- a token before those that follow it
 unfoldable pub before : Placed → Split → Split
-before p (refused n place) = refused n place
-before p (accepted ps) = accepted (p ∷ ps)
+before p s = then s (λ ps. accepted (p ∷ ps))
 
 -- a lexeme at a place, and what follows it: the first faulty token decides
 unfoldable pub enter : ℕ → Lexeme → Split → Split
@@ -140,7 +139,7 @@ split rules (suc skip) line at (b ∷ bs) = split rules skip false (suc at) bs
 
 -- refusal 2 over the whole file, then the first faulty token of 3 to 6; the start of the file counts as a line start
 unfoldable pub tokensBy : (rules : Rules) → List ℕ → Split
-tokensBy rules file = cond (ltb (firstRefused file) (length file)) (refused 2 (firstRefused file)) (split rules 0 true 0 file)
+tokensBy rules file = need (leb (length file) (firstRefused file)) 2 (firstRefused file) (split rules 0 true 0 file)
 
 -- by today's rules
 abbrev pub tokensOf : List ℕ → Split

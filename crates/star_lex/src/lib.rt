@@ -15,8 +15,9 @@ ghost use denote.Ref.{ptr};
 ghost use Rattle.star_text.specs.Bytes.{Classes, isWhite};
 ghost use Rattle.star_lex.specs.Rules.{today};
 ghost use Rattle.star_lex.specs.Tokens.{Placed, tokenRow, opening};
-ghost use Rattle.star_lex.specs.Split.{refused, accepted, quoted, field, fieldLexeme, quotedLexeme, wordFrom, split as Split·split, lexeme as Split·lexeme};
-ghost use Rattle.star_lex.specs.Found.{tokensIn, answerOf, tableOf, foundAt, isSome};
+ghost use Rattle.star_text.specs.Outcome.{refused, accepted};
+ghost use Rattle.star_lex.specs.Split.{quoted, field, fieldLexeme, quotedLexeme, wordFrom, split as Split·split, lexeme as Split·lexeme};
+ghost use Rattle.star_lex.specs.Found.{splitAnswer, Splits, foundAt, isSome};
 ghost use Rattle.star_lex.specs.Table.{contentIn, orEmpty, startIn, firstByte, further};
 
 // The classes of bytes that white space and line ends begin with.
@@ -141,7 +142,7 @@ fn lexeme(classes: &[u8; 256], file: &[u8], at: usize, line: bool) -> Found
 fn split(classes: &[u8; 256], file: &[u8], table: &mut [u32]) -> Tokens
     requires { ⌜ length (now file) ≤ mostBytes ⌝ }
     requires { ⌜ Classes (now classes) ⌝ }
-    ensures { λ r. ⌜ r ≡ answerOf (Split·split today 0 true 0 (now (file .entry))) ⌝ }
+    ensures { λ r. ⌜ r ≡ splitAnswer (Split·split today 0 true 0 (now (file .entry))) ⌝ }
     ensures { λ _. ⌜ ((ps : List Placed) → Split·split today 0 true 0 (now (file .entry)) ≡ accepted ps
         → now (table .exit) ≡ stored 3 tokenRow ps (now (table .entry))) ⌝ }
 {
@@ -183,7 +184,7 @@ fn split(classes: &[u8; 256], file: &[u8], table: &mut [u32]) -> Tokens
 
 // A refusal: every word of the table is 0.
 fn refuse(table: &mut [u32], refusal: u32, place: u32) -> Tokens
-    ensures { λ r. ⌜ r ≡ answerOf (refused refusal place) ⌝ }
+    ensures { λ r. ⌜ r ≡ splitAnswer (refused refusal place) ⌝ }
     ensures { λ _. ⌜ now (table .exit) ≡ replicate (length (now (table .entry))) 0 ⌝ }
 {
     star_rows::clear_from(table, 0);
@@ -196,8 +197,7 @@ fn refuse(table: &mut [u32], refusal: u32, place: u32) -> Tokens
 
 // Splits a file into tokens and stores them as table 1; on a refusal every word of it is 0.
 pub fn read_tokens(file: &[u8], table: &mut [u32]) -> Tokens
-    ensures { λ r. ⌜ r ≡ answerOf (tokensIn (now (file .entry)) (length (now (table .entry)))) ⌝ }
-    ensures { λ _. ⌜ now (table .exit) ≡ tableOf (tokensIn (now (file .entry)) (length (now (table .entry)))) (length (now (table .entry))) ⌝ }
+    ensures { λ r. ⌜ Splits (now (file .entry)) (now (table .entry)) (now (table .exit)) r ⌝ }
 {
     if star_text::MOST_BYTES < file.len() {
         return refuse(table, 1, 0);

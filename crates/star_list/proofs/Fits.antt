@@ -8,9 +8,10 @@ use native.Mathlib.Omega.{arith}
 use borrow.Author.Tests.{leb-true}
 use lib.Dec.{eqb, leb}
 use lib.ListN.{length, length-append}
+use Rattle.star_text.specs.Outcome.{refused, accepted}
 use Rattle.star_lex.specs.Tokens.{Placed, Each, opening, dataWord}
 use Rattle.star_lex.proofs.Parts.{PartOf, split-parts, contentEnd, Ordered, split-ordered}
-use Rattle.star_read.specs.Read.{Outcome, refused, accepted, tokensOnly, readOf}
+use Rattle.star_read.specs.Read.{ReadOutcome, tokensOnly, readOf}
 use Rattle.star_read.specs.Demands.{Numbered}
 use Rattle.star_read.specs.Known.{ofWords}
 use Rattle.star_read.proofs.Demand1.{refused-numbered, accepted-room}
@@ -62,11 +63,11 @@ text-fits : (input : List ℕ) → length input ≤ 8192 → length (textOf (rea
 unfolding textOf
 text-fits input h = go (readOf input (ofWords 16384)) refl
   where
-    go : (o : Outcome) → readOf input (ofWords 16384) ≡ o → length (textOf o) ≤ 8217
+    go : (o : ReadOutcome) → readOf input (ofWords 16384) ≡ o → length (textOf o) ≤ 8217
     go (refused n place) e =
         let low : (n ≤ 12) × (place ≤ length input + 5) = numbered-low (refused-numbered input (ofWords 16384) n place e) in
         omega (arith, refused-fits n place (omega arith) (omega arith))
-    go (accepted ps rows) e =
+    go (accepted (ps, rows)) e =
         let (tokens, reading, rooms) = accepted-room input (ofWords 16384) ps rows e in
         let splits = tokens .splits in
         let codes = codes-fit input 0 ps (split-parts input ps splits) (split-ordered input ps splits) (omega arith) in

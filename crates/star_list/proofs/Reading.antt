@@ -4,11 +4,12 @@ use mathlib.Core.List.{List, _++_}
 use Prim.Native.Nat.{ℕ, _≤_, _<_}
 use borrow.Author.Tests.{le-leb, lt-leb}
 use lib.ListN.{length, replicate, length-replicate}
+use Rattle.star_text.specs.Outcome.{accepted}
 use Rattle.star_lex.specs.Tokens.{Placed}
 use Rattle.star_grammar.specs.Tables.{Rows}
 use Rattle.star_lex.specs.Holds.{fileTokens}
-use Rattle.star_read.specs.Read.{Sizes, accepted, readOf}
-use Rattle.star_read.specs.Answer.{tables, sizes, answerOf}
+use Rattle.star_read.specs.Read.{Sizes, readOf}
+use Rattle.star_read.specs.Answer.{tables, sizes, readAnswer}
 use Rattle.star_read.specs.Known.{ofWords}
 use Rattle.star_read.specs.declared.Reading.{Reading}
 use Rattle.star_read.proofs.Accepted.{answer-refused, answer-accepted, tokens-file}
@@ -19,23 +20,23 @@ use Rattle.star_list.specs.Put.{Put}
 abbrev pub countsOf : Reading → List ℕ
 countsOf r = countsLine (r .tokens) (r .sets) (r .names) (r .packets) (r .values)
 
-module _ (file : List ℕ) (w : Sizes) (r : Reading) (e : r ≡ answerOf (readOf file w)) where
+module _ (file : List ℕ) (w : Sizes) (r : Reading) (e : r ≡ readAnswer (readOf file w)) where
   pub text-refused : (r .refusal ≡ 0 → ⊥) → textOf (readOf file w) ≡ refusedLine (r .refusal) (r .place)
   unfolding textOf
   text-refused f = rw (answer-refused (readOf file w) r e f)
 
   module _ (z : r .refusal ≡ 0) where
-    accepts : (ps : List Placed) × (rows : Rows) × (readOf file w ≡ accepted ps rows)
+    accepts : (ps : List Placed) × (rows : Rows) × (readOf file w ≡ accepted (ps, rows))
     accepts = answer-accepted file w r e z
 
-    answers : r ≡ answerOf (accepted (accepts .0) (accepts .1))
-    answers = e ∙ ap answerOf (accepts .2)
+    answers : r ≡ readAnswer (accepted (accepts .0, accepts .1))
+    answers = e ∙ ap readAnswer (accepts .2)
 
     pub text-accepted : textOf (readOf file w) ≡ codeLines (fileTokens file) ++ countsOf r
-    unfolding textOf answerOf
+    unfolding textOf readAnswer
     text-accepted =
         ap textOf (accepts .2)
-        ∙ ap (λ l. codeLines l ++ countsOf (answerOf (accepted (accepts .0) (accepts .1)))) (tokens-file file w (accepts .0) (accepts .1) (accepts .2))
+        ∙ ap (λ l. codeLines l ++ countsOf (readAnswer (accepted (accepts .0, accepts .1)))) (tokens-file file w (accepts .0) (accepts .1) (accepts .2))
         ∙ ap (λ s. codeLines (fileTokens file) ++ countsOf s) (sym answers)
 
 -- by the length of the input

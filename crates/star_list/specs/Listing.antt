@@ -4,8 +4,9 @@ use mathlib.Core.List.{List, [], _∷_, _++_, map, flatMap}
 use Prim.Native.Nat.{ℕ}
 use lib.Dec.{eqb, leb}
 use lib.ListN.{length}
+use Rattle.star_text.specs.Outcome.{refused, accepted}
 use Rattle.star_lex.specs.Tokens.{Token}
-use Rattle.star_read.specs.Read.{Outcome, refused, accepted, tokensOnly, readOf}
+use Rattle.star_read.specs.Read.{ReadOutcome, tokensOnly, readOf}
 use Rattle.star_read.specs.Known.{ofWords}
 use Rattle.star_list.specs.Decimal.{decimal}
 
@@ -44,9 +45,9 @@ unfoldable pub countsLine : (tokens sets names packets values : ℕ) → List �
 countsLine tokens sets names packets values = line (spaced (map decimal (tokens ∷ sets ∷ names ∷ packets ∷ values ∷ [])))
 
 -- what is printed of a reading
-unfoldable pub textOf : Outcome → List ℕ
+unfoldable pub textOf : ReadOutcome → List ℕ
 textOf (refused n place) = refusedLine n place
-textOf (accepted ps rows) =
+textOf (accepted (ps, rows)) =
     codeLines (tokensOnly ps)
     ++ countsLine (length ps) (length (rows .sets)) (length (rows .names)) (length (rows .packets)) (length (rows .values))
 

@@ -5,12 +5,12 @@ use mathlib.Core.List.{List, [], _++_, List·Memᴰ, append-assoc}
 use Prim.Native.Nat.{ℕ, zero, suc, _≤_}
 use native.Mathlib.Omega.{arith}
 use lib.ListN.{length}
+use Rattle.star_text.specs.Outcome.{accepted}
 use Rattle.star_text.specs.Bytes.{mostBytes}
 use Rattle.star_lex.specs.Rules.{Rules, today}
 use Rattle.star_text.specs.Names.{key}
 use Rattle.star_lex.specs.Tokens.{Token, Placed, Each}
 use Rattle.star_lex.specs.Split.{tokensBy}
-use Rattle.star_lex.specs.Split as Split
 use Rattle.star_lex.specs.Plain.{plainOf}
 use Rattle.star_lex.specs.WellFormed.{FormedBy}
 use Rattle.star_lex.proofs.Each.{each-append}
@@ -78,7 +78,7 @@ clean-completion p (body w outer l inner f) x c k n =
 -- a row with its completion
 record Completed (rules : Rules) (p : List Token) (st : State) (x : Token) : Type 0 where
   tokens : List Placed
-  splits : tokensBy rules (plainOf (p ++ completion st x)) ≡ Split.accepted tokens
+  splits : tokensBy rules (plainOf (p ++ completion st x)) ≡ accepted tokens
   are : tokensOnly tokens ≡ p ++ completion st x
   tree : File
   yield : fileYield tree ≡ tokensOnly tokens
@@ -88,7 +88,7 @@ module _ (rules : Rules) (least : 1 ≤ rules .levels) (p : List Token) (h : Eac
   completed : (x : List ℕ) → FormedBy rules (record { kind = 6; content = x }) → Completed rules p st (record { kind = 6; content = x })
   completed x w =
       let t : Token = record { kind = 6; content = x } in
-      let s : (ps : List Placed) × (tokensBy rules (plainOf (p ++ completion st t)) ≡ Split.accepted ps) × (tokensOnly ps ≡ p ++ completion st t)
+      let s : (ps : List Placed) × (tokensBy rules (plainOf (p ++ completion st t)) ≡ accepted ps) × (tokensOnly ps ≡ p ++ completion st t)
       = lex-plain-by rules (p ++ completion st t) (each-append (FormedBy rules) p (completion st t) .1 (h, formed-completion rules st t w)) in
       let a : (f : File) × (fileYield f ≡ p ++ completion st t) × FileBy rules f
       = rest-alive rules least p (each-fixed rules p h) st r e t (record { kind6 = refl }) in

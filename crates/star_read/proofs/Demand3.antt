@@ -7,38 +7,41 @@ use Prim.Native.Nat.{ℕ}
 use native.Mathlib.Omega.{arith}
 use borrow.Author.Tests.{le-ltb}
 use lib.ListN.{length, length-map}
+use Rattle.star_text.specs.Outcome.{refused, accepted, then}
+use Rattle.star_text.proofs.Outcome.{refused≢accepted, accepted-same, then-accepted}
 use Rattle.star_lex.specs.Rules.{Rules}
 use Rattle.star_lex.specs.Tokens.{Placed}
-use Rattle.star_lex.specs.Split.{Split, tokensBy}
-use Rattle.star_lex.specs.Split as Split
+use Rattle.star_lex.specs.Split.{tokensBy}
 use Rattle.star_lex.specs.Found.{tokensInBy}
 use Rattle.star_lex.proofs.Cases.{impossible}
 use Rattle.star_lex.proofs.WellFormed.{well-formed-by}
-use Rattle.star_lex.proofs.Answers.{accepted-by}
+use Rattle.star_lex.proofs.Answers.{in-fits}
 use Rattle.star_grammar.specs.Tables.{Rows, noRows, rowsOf}
 use Rattle.star_grammar.specs.Reading.{ReadingBy}
 use Rattle.star_grammar.specs.Machine.{start, good, run}
 use Rattle.star_grammar.proofs.Unambiguous.{unambiguous}
 use Rattle.star_unique.specs.Repeat.{nothing}
 use Rattle.star_unique.proofs.Clean.{Clean, clean-repeat}
-use Rattle.star_read.specs.Read.{Outcome, refused, accepted, Sizes, tokensOnly, decide, grammarOf, fitting, after, readBy}
+use Rattle.star_read.specs.Read.{FileRows, ReadOutcome, Sizes, tokensOnly, decide, grammarOf, rowsFit, readBy}
 use Rattle.star_read.specs.Demands.{Usable, Fair, FirstBad, Bad, AcceptedExactly, OneReading, RowsOfReading, PlaceOfRefusal}
 use Rattle.star_read.proofs.Readings.{reading-run, reading-clean, run-reading}
 use Rattle.star_read.proofs.Verdict.{Verdict, verdict}
-use Rattle.star_read.proofs.Fitting.{refused≢accepted, tokenized-read, room-fits, fits-accepted}
+use Rattle.star_read.proofs.Fitting.{tokenized-read, room-fits, fits-accepted}
 use Rattle.star_read.proofs.FairFile.{accepted-fits}
 use Rattle.star_read.proofs.FirstBad.{verdict-bad}
 
 -- a row that the grammar accepts
-pub accepted-verdict : (rules : Rules) (ps qs : List Placed) (size : ℕ) (rows : Rows) (o : Outcome) → Verdict rules ps size o → o ≡ accepted qs rows
+pub accepted-verdict : (rules : Rules) (ps qs : List Placed) (size : ℕ) (rows : Rows) (o : ReadOutcome) → Verdict rules ps size o → o ≡ accepted (qs, rows)
     → (ps ≡ qs) × (run rules start (tokensOnly ps) noRows ≡ good rows) × Clean nothing (tokensOnly ps)
-accepted-verdict rules ps qs size rows o (Verdict.reads u e c) q = ((cc), e ∙ ap good (let k : u ≡ rows = cc in k), c)
+accepted-verdict rules ps qs size rows o (Verdict.reads u e c) q =
+    let same : _≡_ {A = FileRows} (ps, u) (qs, rows) = accepted-same q in
+    (ap (λ p. p .0) same, e ∙ ap (λ p. good (p .1)) same, c)
 accepted-verdict rules ps qs size rows o (Verdict.repeats place p t q e l c w k) d = impossible cc
 accepted-verdict rules ps qs size rows o (Verdict.halts n place p t q e l c st r w k) d = impossible cc
 accepted-verdict rules ps qs size rows o (Verdict.ends n place i l c st r w k) d = impossible cc
 
 -- a reading makes the grammar accept
-pub reading-accepted : (rules : Rules) (ps : List Placed) (size : ℕ) (r : ReadingBy rules (tokensOnly ps)) → grammarOf rules size ps ≡ accepted ps (rowsOf (r .tree))
+pub reading-accepted : (rules : Rules) (ps : List Placed) (size : ℕ) (r : ReadingBy rules (tokensOnly ps)) → grammarOf rules size ps ≡ accepted (ps, rowsOf (r .tree))
 unfolding grammarOf decide
 reading-accepted rules ps size r =
     rw (reading-run rules (tokensOnly ps) r, clean-repeat nothing (tokensOnly ps) (reading-clean rules (tokensOnly ps) r), length-map, le-ltb (length ps) (length ps) (omega arith))
@@ -46,38 +49,33 @@ reading-accepted rules ps size r =
 pub one-reading : OneReading
 one-reading rules ts r s = unambiguous rules (r .tree) (s .tree) (r .whole) (s .whole) (r .yield ∙ sym (s .yield))
 
-rows-after : (rules : Rules) → Usable rules → (file : List ℕ) (words : Sizes) (ps : List Placed) (rows : Rows) (s : Split) → tokensInBy rules file (words .tokens) ≡ s
-    → after rules (length file) words s ≡ accepted ps rows
-    → (tokensBy rules file ≡ Split.accepted ps) × (r : ReadingBy rules (tokensOnly ps)) × (rows ≡ rowsOf (r .tree))
-unfolding after
-rows-after rules usable file words ps rows (Split.refused n place) d e = absurd (refused≢accepted n place ps rows e)
-rows-after rules usable file words ps rows (Split.accepted qs) d e =
+pub rows-of-reading : RowsOfReading
+unfolding readBy
+rows-of-reading rules usable file words ps rows e =
+    let (qs, d, h) = then-accepted (tokensInBy rules file (words .tokens)) _ (ps, rows) e in
     let v : (qs ≡ ps) × (run rules start (tokensOnly qs) noRows ≡ good rows) × Clean nothing (tokensOnly qs)
-    = accepted-verdict rules qs ps (length file) rows _ (verdict rules qs (length file)) (fits-accepted words _ ps rows e) in
-    let s : tokensBy rules file ≡ Split.accepted qs = accepted-by rules file (words .tokens) qs d in
+    = accepted-verdict rules qs ps (length file) rows _ (verdict rules qs (length file)) (fits-accepted words _ (ps, rows) h) in
+    let s : tokensBy rules file ≡ accepted qs = in-fits rules file (words .tokens) qs d .1 in
     let r : (r : ReadingBy rules (tokensOnly qs)) × (rows ≡ rowsOf (r .tree)) = run-reading rules (usable .some-level) (tokensOnly qs) rows (well-formed-by rules file qs s) (v .1) (v .2) in
     rw (← (v .0)) (s, r .0, r .1)
 
-pub rows-of-reading : RowsOfReading
-unfolding readBy
-rows-of-reading rules usable file words ps rows e = rows-after rules usable file words ps rows _ refl e
-
 pub accepted-exactly : AcceptedExactly
+unfolding then
 accepted-exactly rules usable file words ps f = (
   λ a. rows-of-reading rules usable file words ps (a .0) (a .1) .1,
-  λ r. (rowsOf (r .tree), tokenized-read rules file words ps (f .tokenized) ∙ ap (fitting words) (reading-accepted rules ps (length file) r) ∙ room-fits words ps (rowsOf (r .tree)) (f .rooms r)),
+  λ r. (rowsOf (r .tree), tokenized-read rules file words ps (f .tokenized) ∙ ap (λ o. then o (rowsFit words)) (reading-accepted rules ps (length file) r) ∙ room-fits words ps (rowsOf (r .tree)) (f .rooms r)),
 )
 
 -- where there is room, a refused file has a first bad token
 pub fair-bad : (rules : Rules) → Usable rules → (file : List ℕ) (words : Sizes) (ps : List Placed) → Fair rules file words ps → (n place : ℕ) → readBy rules file words ≡ refused n place → Bad rules file ps n place
-unfolding fitting
+unfolding then
 fair-bad rules usable file words ps f n place e = by (grammarOf rules (length file) ps) (verdict rules ps (length file)) (sym (tokenized-read rules file words ps (f .tokenized)) ∙ e)
   where
-    by : (o : Outcome) → Verdict rules ps (length file) o → fitting words o ≡ refused n place → Bad rules file ps n place
+    by : (o : ReadOutcome) → Verdict rules ps (length file) o → then o (rowsFit words) ≡ refused n place → Bad rules file ps n place
     by (refused m i) v d = verdict-bad rules usable file words ps (f .tokenized) n place (refused m i) v d
-    by (accepted qs rows) v d =
+    by (accepted (qs, rows)) v d =
         let k : (ps ≡ qs) × (run rules start (tokensOnly ps) noRows ≡ good rows) × Clean nothing (tokensOnly ps) = accepted-verdict rules ps qs (length file) rows _ v refl in
-        absurd (refused≢accepted n place ps rows (sym (rw (← (k .0)) at d) ∙ accepted-fits rules usable file words ps f rows (k .1) (k .2)))
+        absurd (refused≢accepted n place (ps, rows) (sym (rw (← (k .0)) at d) ∙ accepted-fits rules usable file words ps f rows (k .1) (k .2)))
 
 pub place-of-refusal : PlaceOfRefusal
 place-of-refusal rules usable file words ps f n place e = at (fair-bad rules usable file words ps f n place e)

@@ -6,6 +6,7 @@ use mathlib.Core.List.{List, [], _∷_, _++_, map-append}
 use Prim.Native.Nat.{ℕ, _≤_}
 use native.Mathlib.Omega.{arith}
 use lib.ListN.{length, length-append, length-map}
+use Rattle.star_text.specs.Outcome.{accepted, then}
 use Rattle.star_text.specs.Bytes.{mostBytes}
 use Rattle.star_lex.specs.Rules.{today}
 use Rattle.star_lex.specs.Rules.{Rules}
@@ -22,7 +23,7 @@ use Rattle.star_unique.specs.Repeat.{nothing, isTaken}
 use Rattle.star_unique.specs.Seen.{takesAll}
 use Rattle.star_unique.proofs.Clean.{Clean}
 use Rattle.star_unique.proofs.First.{taken-unclean}
-use Rattle.star_read.specs.Read.{accepted, Sizes, tokensOnly, fitting}
+use Rattle.star_read.specs.Read.{Sizes, tokensOnly, rowsFit}
 use Rattle.star_read.specs.Demands.{Usable, Begins, Tokenized, Fair}
 use Rattle.star_read.proofs.Readings.{run-reading}
 use Rattle.star_read.proofs.Begin.{begins-walks, begins-clean, walks-begins}
@@ -58,7 +59,7 @@ module _ (rules : Rules) where
 
   -- and, in a fair file, room
   pub accepted-fits : Usable rules → (file : List ℕ) (words : Sizes) (ps : List Placed) → Fair rules file words ps → (rows : Rows)
-      → run rules start (tokensOnly ps) noRows ≡ good rows → Clean nothing (tokensOnly ps) → fitting words (accepted ps rows) ≡ accepted ps rows
+      → run rules start (tokensOnly ps) noRows ≡ good rows → Clean nothing (tokensOnly ps) → rowsFit words (ps, rows) ≡ accepted (ps, rows)
   accepted-fits usable file words ps f rows e c =
       let r : (r : ReadingBy rules (tokensOnly ps)) × (rows ≡ rowsOf (r .tree)) = accepted-reading usable file words ps (f .tokenized) rows e c in
       room-fits words ps rows (rw (r .1) (f .rooms (r .0)))

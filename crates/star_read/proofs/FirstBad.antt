@@ -5,6 +5,7 @@ use mathlib.Core.List.{List, [], _∷_, _++_, map-append, append-nil}
 use Prim.Native.Nat.{ℕ}
 use lib.ListN.{length}
 use lib.Seq.{append-snoc}
+use Rattle.star_text.specs.Outcome.{refused}
 use Rattle.star_lex.specs.Rules.{Rules}
 use Rattle.star_lex.specs.Tokens.{Placed, Each}
 use Rattle.star_lex.specs.WellFormed.{FormedBy}
@@ -15,7 +16,7 @@ use Rattle.star_grammar.specs.Tables.{noRows}
 use Rattle.star_grammar.proofs.Walking.{walks-first}
 use Rattle.star_unique.specs.Repeat.{nothing}
 use Rattle.star_unique.specs.Seen.{takesAll}
-use Rattle.star_read.specs.Read.{Outcome, refused, Sizes, tokensOnly}
+use Rattle.star_read.specs.Read.{ReadOutcome, Sizes, tokensOnly}
 use Rattle.star_read.specs.Demands.{Usable, Begins, Tokenized, NumberAt, Bad}
 use Rattle.star_read.proofs.Begin.{begins-first, walks-shape}
 use Rattle.star_read.proofs.Verdict.{Verdict}
@@ -46,7 +47,7 @@ module _ (rules : Rules) where
     formed-at p t q e = rw map-append at (part-formed rules usable file words ps f (p ++ (t ∷ [])) q (e ∙ sym (append-snoc p t q)))
 
     -- a verdict that refuses names the first bad token
-    pub verdict-bad : (n place : ℕ) (o : Outcome) → Verdict rules ps (length file) o → o ≡ refused n place → Bad rules file ps n place
+    pub verdict-bad : (n place : ℕ) (o : ReadOutcome) → Verdict rules ps (length file) o → o ≡ refused n place → Bad rules file ps n place
     verdict-bad n place o (Verdict.reads rows e c) d = impossible cc
     verdict-bad n place o (Verdict.repeats i p t q e l c w k) d =
         let m : 9 ≡ n = cc in

@@ -1,12 +1,13 @@
 -- What an answer of `judge` tells of the outcome: a refusal is the outcome's, and no refusal means that the run is good and every table has room.
 use mathlib.Core.Path.{_≡_, refl, sym, _∙_, ap, subst}
-use mathlib.Core.Bool.{Bool, true, false}
 use mathlib.Core.List.{List}
 use Prim.Native.Nat.{ℕ, _*_, _≤_}
 use native.Mathlib.Omega.{arith}
-use borrow.Author.Tests.{ltb-false}
 use lib.Dec.{ltb}
 use lib.ListN.{length}
+use Rattle.star_text.specs.Outcome.{refused, accepted, then}
+use Rattle.star_text.proofs.Outcome.{accepted-same, need-refused, then-accepted, then-refused, NotZero, told-refused, told-accepted}
+use Rattle.star_text.proofs.Cases.{impossible, cond-cases}
 use Rattle.star_rows.specs.Widths.{setWidth, nameWidth, packetWidth, valueWidth}
 use Rattle.star_rows.specs.Rows.{holding, clearedFrom}
 use Rattle.star_rows.proofs.Stored.{stored-holding}
@@ -22,62 +23,68 @@ use Rattle.star_parse.proofs.RunKinds.{run-holding, rows-run}
 use Rattle.star_lex.specs.Holds.{Holds, fileTokens}
 use Rattle.star_unique.specs.Repeat.{nothing, firstRepeat}
 use Rattle.star_lex.proofs.Held.{count-small}
-use Rattle.star_read.specs.Read.{Outcome, refused, accepted, Sizes, decide, fitting, grammarOf}
+use Rattle.star_read.specs.Read.{ReadOutcome, FileRows, Sizes, decide, roomFor, rowsFit, grammarOf}
 use Rattle.star_read.specs.Demands.{Room}
-use Rattle.star_read.specs.Answer.{answerOf, tables, tablesOf, judgedOf, words, Ran, ClearedBehind, Leaves, Tables}
+use Rattle.star_read.specs.Answer.{readAnswer, tables, tablesOf, judgedOf, words, Ran, ClearedBehind, Leaves, Tables}
 use Rattle.star_read.specs.declared.Reading.{Reading}
 use Rattle.star_read.specs.declared.Judged.{Judged}
+use Rattle.star_read.proofs.Fitting.{rows-room}
 use Rattle.star_read.proofs.Judging.{run-number}
 
-pub judged-refused : (o : Outcome) (j : Judged) → j ≡ judgedOf o → (j .refusal ≡ 0 → ⊥) → o ≡ refused (j .refusal) (j .place)
+pub judged-refused : (o : ReadOutcome) (j : Judged) → j ≡ judgedOf o → (j .refusal ≡ 0 → ⊥) → o ≡ refused (j .refusal) (j .place)
 unfolding judgedOf
-judged-refused (refused n place) j e f =
-    let a : j .refusal ≡ n = ap (λ k. k .refusal) e in
-    let b : j .place ≡ place = ap (λ k. k .place) e in
-    cc
-judged-refused (accepted ps rows) j e f = absurd (f (ap (λ k. k .refusal) e))
+judged-refused o j e f = told-refused o _ _ (ap (λ k. k .refusal) e) (ap (λ k. k .place) e) f
 
 -- accepted: the run is good, and every table has room
 pub record Settled (w : Sizes) (size : ℕ) (ps : List Placed) (taken : ℕ) (x : Run) : Type 0 where
   pub rows : Rows
   pub is-good : x ≡ good rows
-  pub outcome : fitting w (decide size ps taken x) ≡ accepted ps rows
+  pub outcome : then (decide size ps taken x) (rowsFit w) ≡ accepted (ps, rows)
   pub room : Room w rows
 
-module _ (w : Sizes) (ps : List Placed) (rows : Rows) where
-  rooms : judgedOf (fitting w (accepted ps rows)) .refusal ≡ 0 → (fitting w (accepted ps rows) ≡ accepted ps rows) × Room w rows
-  unfolding fitting judgedOf
-  rooms e =
-      byTests (ltb (w .sets) (length (rows .sets) * setWidth)) refl (ltb (w .names) (length (rows .names) * nameWidth)) refl
-      (ltb (w .packets) (length (rows .packets) * packetWidth)) refl (ltb (w .values) (length (rows .values) * valueWidth)) refl
-    where
-      byTests : (a : Bool) → ltb (w .sets) (length (rows .sets) * setWidth) ≡ a → (b : Bool) → ltb (w .names) (length (rows .names) * nameWidth) ≡ b
-          → (c : Bool) → ltb (w .packets) (length (rows .packets) * packetWidth) ≡ c → (d : Bool) → ltb (w .values) (length (rows .values) * valueWidth) ≡ d
-          → (fitting w (accepted ps rows) ≡ accepted ps rows) × Room w rows
-      byTests true p b q c r d s = absurd (let z : _≡_ {A = ℕ} 7 0 = rw p at e in omega arith)
-      byTests false p true q c r d s = absurd (let z : _≡_ {A = ℕ} 7 0 = rw (p, q) at e in omega arith)
-      byTests false p false q true r d s = absurd (let z : _≡_ {A = ℕ} 7 0 = rw (p, q, r) at e in omega arith)
-      byTests false p false q false r true s = absurd (let z : _≡_ {A = ℕ} 7 0 = rw (p, q, r, s) at e in omega arith)
-      byTests false p false q false r false s = (
-        rw (p, q, r, s),
-        record { sets = ltb-false _ _ p; names = ltb-false _ _ q; packets = ltb-false _ _ r; values = ltb-false _ _ s },
-      )
+-- the room refuses with 7
+rows-number : (w : Sizes) (a : FileRows) → NotZero (rowsFit w a)
+unfolding rowsFit roomFor
+rows-number w a n place e z =
+    need-refused _ 7 2 _ n place e
+    (λ p h. need-refused _ 7 3 _ n place h
+    (λ q i. need-refused _ 7 4 _ n place i
+    (λ r j. need-refused _ 7 5 _ n place j (λ s k. impossible cc) (λ s k l. omega arith)) (λ r k l. omega arith))
+    (λ q k l. omega arith)) (λ p k l. omega arith)
+
+-- what a run decides is refused with 9 or with the run's number
+decide-number : (size : ℕ) (ps : List Placed) (taken : ℕ) (x : Run) → ((m i : ℕ) → x ≡ bad m i → m ≡ 0 → ⊥) → NotZero (decide size ps taken x)
+unfolding decide
+decide-number size ps taken (bad m i) f n place e z =
+    cond-cases (ltb taken i) _ _ (refused n place) e (λ t h. let k : 9 ≡ n = cc in omega arith) (λ t h. let k : m ≡ n = cc in f m i refl (k ∙ z))
+decide-number size ps taken (good rows) f n place e z =
+    cond-cases (ltb taken (length ps)) _ _ (refused n place) e (λ t h. let k : 9 ≡ n = cc in omega arith) (λ t h. impossible cc)
+
+-- what is accepted comes from a good run
+decide-good : (size : ℕ) (ps : List Placed) (taken : ℕ) (x : Run) (qs : List Placed) (rows : Rows) → decide size ps taken x ≡ accepted (qs, rows)
+    → (x ≡ good rows) × (ps ≡ qs)
+unfolding decide
+decide-good size ps taken (bad m i) qs rows e = cond-cases (ltb taken i) _ _ (accepted (qs, rows)) e (λ t h. impossible cc) (λ t h. impossible cc)
+decide-good size ps taken (good us) qs rows e =
+    cond-cases (ltb taken (length ps)) _ _ (accepted (qs, rows)) e (λ t h. impossible cc)
+    (λ t h. let same : _≡_ {A = FileRows} (ps, us) (qs, rows) = accepted-same h in (ap (λ p. good (p .1)) same, ap (λ p. p .0) same))
+
+pub judged-number : (w : Sizes) (size : ℕ) (ps : List Placed) (taken : ℕ) (x : Run) → ((m i : ℕ) → x ≡ bad m i → m ≡ 0 → ⊥)
+    → NotZero (then (decide size ps taken x) (rowsFit w))
+judged-number w size ps taken x f n place e z =
+    then-refused (decide size ps taken x) (rowsFit w) n place e
+    (λ h. decide-number size ps taken x f n place h z)
+    (λ a h k. rows-number w a n place k z)
 
 pub settled : (w : Sizes) (size : ℕ) (ps : List Placed) (taken : ℕ) (x : Run) → ((m i : ℕ) → x ≡ bad m i → m ≡ 0 → ⊥)
-    → judgedOf (fitting w (decide size ps taken x)) .refusal ≡ 0 → Settled w size ps taken x
-unfolding decide fitting judgedOf
-settled w size ps taken (bad n i) f e = byTest (ltb taken i) refl
-  where
-    byTest : (t : Bool) → ltb taken i ≡ t → Settled w size ps taken (bad n i)
-    byTest true q = absurd (let z : _≡_ {A = ℕ} 9 0 = rw q at e in omega arith)
-    byTest false q = absurd (f n i refl (rw q at e))
-settled w size ps taken (good rows) f e = byTest (ltb taken (length ps)) refl
-  where
-    byTest : (t : Bool) → ltb taken (length ps) ≡ t → Settled w size ps taken (good rows)
-    byTest true q = absurd (let z : _≡_ {A = ℕ} 9 0 = rw q at e in omega arith)
-    byTest false q =
-        let r = rooms w ps rows (rw q at e) in
-        record { rows = rows; is-good = refl; outcome = rw q (r .0); room = r .1 }
+    → judgedOf (then (decide size ps taken x) (rowsFit w)) .refusal ≡ 0 → Settled w size ps taken x
+unfolding judgedOf
+settled w size ps taken x f e =
+    let (a, o) = told-accepted (then (decide size ps taken x) (rowsFit w)) (judged-number w size ps taken x f) e in
+    let (b, d, fit) = then-accepted (decide size ps taken x) (rowsFit w) a o in
+    let (same, room) = rows-room w b a fit in
+    let (g, is) = decide-good size ps taken x (b .0) (b .1) d in
+    record { rows = b .1; is-good = g; outcome = o ∙ ap (λ c. accepted c) (sym same) ∙ ap (λ q. accepted (q, b .1)) (sym is); room = room }
 
 -- the rows stored and the tables cleared behind them
 pub record Held (rows : Rows) (before after : FourTables) : Type 0 where
@@ -132,15 +139,15 @@ same-words n before after k = rw (k .sets, k .names, k .packets, k .values)
 
 module _ (file table : List ℕ) (count : ℕ) (h : Holds file table count) (before mid : FourTables) (k : SameSizes before mid) (r : Parsed)
     (a : Answers count (rowsRun count table) before r mid) (j : Judged)
-    (e : j ≡ judgedOf (fitting (sizesOf (length table) mid) (grammarOf today (length file) (placed (tokensOf file))))) where
+    (e : j ≡ judgedOf (then (grammarOf today (length file) (placed (tokensOf file))) (rowsFit (sizesOf (length table) mid)))) where
   answers : Answers count (run today start (fileTokens file) noRows) before r mid
   answers = subst (λ x. Answers count x before r mid) (held-run file table count h) a
 
-  judged-before : j ≡ judgedOf (fitting (sizesOf (length table) before) (grammarOf today (length file) (placed (tokensOf file))))
-  judged-before = e ∙ ap (λ w. judgedOf (fitting w (grammarOf today (length file) (placed (tokensOf file))))) (same-words (length table) before mid k)
+  judged-before : j ≡ judgedOf (then (grammarOf today (length file) (placed (tokensOf file))) (rowsFit (sizesOf (length table) before)))
+  judged-before = e ∙ ap (λ w. judgedOf (then (grammarOf today (length file) (placed (tokensOf file))) (rowsFit w))) (same-words (length table) before mid k)
 
   pub outcome-refused : (j .refusal ≡ 0 → ⊥)
-      → fitting (sizesOf (length table) before) (grammarOf today (length file) (placed (tokensOf file))) ≡ refused (j .refusal) (j .place)
+      → then (grammarOf today (length file) (placed (tokensOf file))) (rowsFit (sizesOf (length table) before)) ≡ refused (j .refusal) (j .place)
   outcome-refused f = judged-refused _ j judged-before f
 
   pub outcome-settled : j .refusal ≡ 0
@@ -153,7 +160,7 @@ module _ (file table : List ℕ) (count : ℕ) (h : Holds file table count) (bef
   rows-accepted rows g = subst (λ x. Answers count x before r mid) g answers
 
 -- tables that a refusal has cleared
-pub leaves-refused : (table : List ℕ) (before mid : FourTables) → SameSizes before mid → (o : Outcome) (n place : ℕ) → o ≡ refused n place
+pub leaves-refused : (table : List ℕ) (before mid : FourTables) → SameSizes before mid → (o : ReadOutcome) (n place : ℕ) → o ≡ refused n place
     → {t : Tables} → Leaves (refused n place) (sizesOf (length table) mid) t → Leaves o (sizesOf (length table) before) t
 leaves-refused table before mid k o n place e {t} l =
     subst (λ q. Leaves q (sizesOf (length table) before) t) (sym e)
@@ -172,12 +179,12 @@ countedBy count r = record {
 }
 
 -- the answer and the tables of an accepted file
-pub accepted-answer : (o : Outcome) (ps : List Placed) (rows : Rows) (count : ℕ) (before mid : FourTables) (r : Parsed) → o ≡ accepted ps rows
-    → count ≡ length ps → Accepted count rows before r mid → countedBy count r ≡ answerOf o
-unfolding answerOf
+pub accepted-answer : (o : ReadOutcome) (ps : List Placed) (rows : Rows) (count : ℕ) (before mid : FourTables) (r : Parsed) → o ≡ accepted (ps, rows)
+    → count ≡ length ps → Accepted count rows before r mid → countedBy count r ≡ readAnswer o
+unfolding readAnswer
 accepted-answer o ps rows count before mid r e c a = rw (e, c, a .sets, a .names, a .packets, a .values)
 
-pub accepted-leaves : (o : Outcome) (ps : List Placed) (rows : Rows) (table : List ℕ) (before after : FourTables) → o ≡ accepted ps rows
+pub accepted-leaves : (o : ReadOutcome) (ps : List Placed) (rows : Rows) (table : List ℕ) (before after : FourTables) → o ≡ accepted (ps, rows)
     → table ≡ holding tokenRow ps (length table) → Held rows before after
     → Leaves o (sizesOf (length table) before) (tables table (after .sets) (after .names) (after .packets) (after .values))
 unfolding tablesOf

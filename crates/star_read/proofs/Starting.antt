@@ -2,24 +2,24 @@
 use mathlib.Core.Path.{_≡_}
 use mathlib.Core.List.{List}
 use lib.ListN.{length}
+use Rattle.star_text.specs.Outcome.{refused, accepted, then}
 use Rattle.star_lex.specs.Rules.{today}
 use Rattle.star_lex.specs.Tokens.{Placed}
 use Rattle.star_lex.specs.Split.{tokensOf, placed}
-use Rattle.star_lex.specs.Split as Split
 use Rattle.star_lex.specs.Found.{tokensIn}
 use Rattle.star_lex.proofs.Answers.{tokens-accepted}
 use Rattle.star_unique.specs.Compared.{comparedOf}
 use Rattle.star_unique.specs.declared.Compared.{Compared}
 use Rattle.star_unique.proofs.Comparing.{compared-refused}
-use Rattle.star_read.specs.Read.{refused, Sizes, fitting, grammarOf, after, readBy, readOf}
+use Rattle.star_read.specs.Read.{Sizes, rowsFit, grammarOf, readBy, readOf}
 use Prim.Native.Nat.{ℕ}
 
 pub read-refused : (file : List ℕ) (w : Sizes) (r : Compared) → r ≡ comparedOf (tokensIn file (w .tokens)) → (r .refusal ≡ 0 → ⊥)
     → readOf file w ≡ refused (r .refusal) (r .place)
-unfolding readBy after
+unfolding readBy then
 read-refused file w r e f = rw (compared-refused (tokensIn file (w .tokens)) r e f)
 
-pub read-after : (file : List ℕ) (w : Sizes) (ps : List Placed) → tokensIn file (w .tokens) ≡ Split.accepted ps
-    → readOf file w ≡ fitting w (grammarOf today (length file) (placed (tokensOf file)))
-unfolding readBy after placed
+pub read-after : (file : List ℕ) (w : Sizes) (ps : List Placed) → tokensIn file (w .tokens) ≡ accepted ps
+    → readOf file w ≡ then (grammarOf today (length file) (placed (tokensOf file))) (rowsFit w)
+unfolding readBy placed then
 read-after file w ps e = rw (e, tokens-accepted file (w .tokens) ps e)

@@ -9,6 +9,7 @@ use borrow.Author.Tests.{ltb-true, ltb-false}
 use lib.Dec.{ltb}
 use lib.ListN.{length, length-map}
 use lib.Seq.{append-snoc}
+use Rattle.star_text.specs.Outcome.{refused, accepted}
 use Rattle.star_lex.specs.Rules.{Rules}
 use Rattle.star_lex.specs.Tokens.{Token, Placed}
 use Rattle.star_lex.proofs.Cases.{impossible}
@@ -20,10 +21,10 @@ use Rattle.star_unique.specs.Repeat.{nothing, isTaken, firstRepeat}
 use Rattle.star_unique.specs.Seen.{takesAll}
 use Rattle.star_unique.proofs.Clean.{Clean, repeat-after, unclean-repeat, repeat-before}
 use Rattle.star_unique.proofs.First.{FirstTaken, first-taken, clean-before}
-use Rattle.star_read.specs.Read.{Outcome, refused, accepted, tokensOnly, placeOf, decide, grammarOf}
+use Rattle.star_read.specs.Read.{ReadOutcome, tokensOnly, tokenPlace, decide, grammarOf}
 
-pub data Verdict (rules : Rules) (ps : List Placed) (size : ℕ) : Outcome → Type 0 where
-  reads : (rows : Rows) → run rules start (tokensOnly ps) noRows ≡ good rows → Clean nothing (tokensOnly ps) → Verdict rules ps size (accepted ps rows)
+pub data Verdict (rules : Rules) (ps : List Placed) (size : ℕ) : ReadOutcome → Type 0 where
+  reads : (rows : Rows) → run rules start (tokensOnly ps) noRows ≡ good rows → Clean nothing (tokensOnly ps) → Verdict rules ps size (accepted (ps, rows))
   repeats : (place : ℕ) (p : List Placed) (t : Placed) (q : List Placed) → ps ≡ p ++ (t ∷ q) → place ≡ t .at → Clean nothing (tokensOnly p)
       → Walks rules start (tokensOnly p ++ (t .token ∷ [])) noRows → isTaken (takesAll nothing (tokensOnly p)) (t .token) ≡ true
       → Verdict rules ps size (refused 9 place)
@@ -33,13 +34,13 @@ pub data Verdict (rules : Rules) (ps : List Placed) (size : ℕ) : Outcome → T
   ends : (n place i : ℕ) → place ≡ size → Clean nothing (tokensOnly ps)
       → (st : State) (r : Rows) → walk rules start (tokensOnly ps) noRows ≡ go st r → endRun st r ≡ bad n i → Verdict rules ps size (refused n place)
 
-place-at : (size : ℕ) (p : List Placed) (t : Placed) (q : List Placed) → placeOf size (p ++ (t ∷ q)) (length p) ≡ t .at
-unfolding placeOf
+place-at : (size : ℕ) (p : List Placed) (t : Placed) (q : List Placed) → tokenPlace size (p ++ (t ∷ q)) (length p) ≡ t .at
+unfolding tokenPlace
 place-at size [] t q = refl
 place-at size (x ∷ p) t q = place-at size p t q
 
-place-end : (size : ℕ) (ps : List Placed) → placeOf size ps (length ps) ≡ size
-unfolding placeOf
+place-end : (size : ℕ) (ps : List Placed) → tokenPlace size ps (length ps) ≡ size
+unfolding tokenPlace
 place-end size [] = refl
 place-end size (x ∷ ps) = place-end size ps
 
@@ -69,20 +70,20 @@ token-at (p ∷ ps) [] b c e = record { before = []; here = p; after = ps; is = 
 token-at (p ∷ ps) (x ∷ a) b c e = at-later p ps x a b (cc) (token-at ps a b c (cc))
 
 module _ (rules : Rules) (ps : List Placed) (size : ℕ) where
-  at-place : (a : List Token) (b : Token) (k : At ps a b) (i : ℕ) → i ≡ length a → placeOf size ps i ≡ k .here .at
+  at-place : (a : List Token) (b : Token) (k : At ps a b) (i : ℕ) → i ≡ length a → tokenPlace size ps i ≡ k .here .at
   at-place a b k i e = rw (e, k .tokens, length-map, k .is) (place-at size (k .before) (k .here) (k .after))
 
   -- the first token of a walk that repeats
   verdict-taken : (p : List Token) → Walks rules start p noRows → (f : FirstTaken nothing p) → At ps (f .before) (f .token) → (i : ℕ)
-      → i ≡ length (f .before) → Verdict rules ps size (refused 9 (placeOf size ps i))
+      → i ≡ length (f .before) → Verdict rules ps size (refused 9 (tokenPlace size ps i))
   verdict-taken p w f k i e =
-      Verdict.repeats (placeOf size ps i) (k .before) (k .here) (k .after) (k .is) (at-place (f .before) (f .token) k i e) (rw (k .tokens) at (f .clean))
+      Verdict.repeats (tokenPlace size ps i) (k .before) (k .here) (k .after) (k .is) (at-place (f .before) (f .token) k i e) (rw (k .tokens) at (f .clean))
       (rw (k .tokens, k .token) at (walks-first rules (f .before ++ (f .token ∷ [])) (f .after) start noRows
       (rw (f .is ∙ sym (append-snoc (f .before) (f .token) (f .after))) at w)))
       (rw (k .tokens, k .token) at (f .taken))
 
   verdict-repeats : (p q : List Token) → tokensOnly ps ≡ p ++ q → Walks rules start p noRows → firstRepeat nothing (tokensOnly ps) < length p
-      → Verdict rules ps size (refused 9 (placeOf size ps (firstRepeat nothing (tokensOnly ps))))
+      → Verdict rules ps size (refused 9 (tokenPlace size ps (firstRepeat nothing (tokensOnly ps))))
   verdict-repeats p q e w h =
       let same : firstRepeat nothing (tokensOnly ps) ≡ firstRepeat nothing (p ++ q) = ap (firstRepeat nothing) e in
       let early : firstRepeat nothing p < length p = unclean-repeat nothing p (λ c. omega (arith, repeat-after nothing p q c)) in
@@ -100,7 +101,7 @@ module _ (rules : Rules) (ps : List Placed) (size : ℕ) where
   verdict-good rows e = by (ltb (firstRepeat nothing (tokensOnly ps)) (length ps)) refl
     where
       by : (b : Bool) → ltb (firstRepeat nothing (tokensOnly ps)) (length ps) ≡ b
-          → Verdict rules ps size (cond b (refused 9 (placeOf size ps (firstRepeat nothing (tokensOnly ps)))) (accepted ps rows))
+          → Verdict rules ps size (cond b (refused 9 (tokenPlace size ps (firstRepeat nothing (tokensOnly ps)))) (accepted (ps, rows)))
       by true d =
           verdict-repeats (tokensOnly ps) [] (sym (append-nil (tokensOnly ps))) (good-walks rules (tokensOnly ps) start noRows rows e)
           (rw length-map (ltb-true _ _ d))
@@ -113,10 +114,10 @@ module _ (rules : Rules) (ps : List Placed) (size : ℕ) where
   verdict-bad n i (Halts.token p t q s u e w f c) = by (ltb (firstRepeat nothing (tokensOnly ps)) i) refl (token-at ps p t q e)
     where
       by : (b : Bool) → ltb (firstRepeat nothing (tokensOnly ps)) i ≡ b → At ps p t
-          → Verdict rules ps size (cond b (refused 9 (placeOf size ps (firstRepeat nothing (tokensOnly ps)))) (refused n (placeOf size ps i)))
+          → Verdict rules ps size (cond b (refused 9 (tokenPlace size ps (firstRepeat nothing (tokensOnly ps)))) (refused n (tokenPlace size ps i)))
       by true d k = verdict-repeats p (t ∷ q) e (s, u, w) (omega (arith, ltb-true, walk-length rules s p u w))
       by false d k =
-          Verdict.halts n (placeOf size ps i) (k .before) (k .here) (k .after) (k .is) (at-place p t k i (c ∙ walk-length rules s p u w))
+          Verdict.halts n (tokenPlace size ps i) (k .before) (k .here) (k .after) (k .is) (at-place p t k i (c ∙ walk-length rules s p u w))
           (rw (k .tokens) at (verdict-clean p (t ∷ q) e (omega (arith, ltb-false, walk-length rules s p u w)))) s u
           (rw (k .tokens) at w) (rw (k .token) at f)
   verdict-bad n i (Halts.end s u w f) = by (ltb (firstRepeat nothing (tokensOnly ps)) i) refl
@@ -125,11 +126,11 @@ module _ (rules : Rules) (ps : List Placed) (size : ℕ) where
       whole = end-passes s u n i f ∙ walk-length rules s (tokensOnly ps) u w ∙ length-map ps _
 
       by : (b : Bool) → ltb (firstRepeat nothing (tokensOnly ps)) i ≡ b
-          → Verdict rules ps size (cond b (refused 9 (placeOf size ps (firstRepeat nothing (tokensOnly ps)))) (refused n (placeOf size ps i)))
+          → Verdict rules ps size (cond b (refused 9 (tokenPlace size ps (firstRepeat nothing (tokensOnly ps)))) (refused n (tokenPlace size ps i)))
       by true d =
           verdict-repeats (tokensOnly ps) [] (sym (append-nil (tokensOnly ps))) (s, u, w) (rw length-map (omega (arith, ltb-true, whole)))
       by false d =
-          Verdict.ends n (placeOf size ps i) i (rw whole (place-end size ps))
+          Verdict.ends n (tokenPlace size ps i) i (rw whole (place-end size ps))
           (verdict-clean (tokensOnly ps) [] (sym (append-nil (tokensOnly ps))) (rw length-map (omega (arith, ltb-false, whole)))) s u w f
 
   pub verdict : Verdict rules ps size (grammarOf rules size ps)

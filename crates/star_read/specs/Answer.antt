@@ -1,15 +1,14 @@
 -- What reading answers and leaves in the lent tables: specification 9.
 use mathlib.Core.Path.{_≡_}
-use mathlib.Core.Bool.{cond}
 use mathlib.Core.List.{List}
 use Prim.Native.Nat.{ℕ, _*_}
-use lib.Dec.{ltb}
 use lib.ListN.{length, replicate}
+use Rattle.star_text.specs.Outcome.{Outcome, refused, accepted, refusalOf, placeOf}
 use Rattle.star_rows.specs.Widths.{setWidth, nameWidth, packetWidth, valueWidth}
 use Rattle.star_rows.specs.Rows.{holding, clearedFrom}
 use Rattle.star_lex.specs.Tokens.{tokenRow}
 use Rattle.star_grammar.specs.Tables.{setWords, nameWords, packetWords, valueWords}
-use Rattle.star_read.specs.Read.{Outcome, refused, accepted, Sizes}
+use Rattle.star_read.specs.Read.{FileRows, ReadOutcome, Sizes, readOf}
 use Rattle.star_grammar.specs.Machine.{Run, bad, good}
 use Rattle.star_parse.specs.Parsed.{FourTables}
 use Rattle.star_parse.specs.declared.Parsed.{Parsed}
@@ -17,9 +16,9 @@ use Rattle.star_read.specs.declared.Reading.{Reading}
 use Rattle.star_read.specs.declared.Judged.{Judged}
 
 -- refusal and place, both 0 when accepted, and the five row counts
-unfoldable pub answerOf : Outcome → Reading
-answerOf (refused n place) = record { refusal = n; place = place; tokens = 0; sets = 0; names = 0; packets = 0; values = 0 }
-answerOf (accepted ps rows) = record {
+unfoldable pub readAnswer : ReadOutcome → Reading
+readAnswer (refused n place) = record { refusal = n; place = place; tokens = 0; sets = 0; names = 0; packets = 0; values = 0 }
+readAnswer (accepted (ps, rows)) = record {
   refusal = 0;
   place = 0;
   tokens = length ps;
@@ -63,9 +62,9 @@ zeroTables words = record {
 }
 
 -- words after the last row are 0; on a refusal every word of every table is 0
-unfoldable pub tablesOf : Outcome → Sizes → Tables
+unfoldable pub tablesOf : ReadOutcome → Sizes → Tables
 tablesOf (refused n place) words = zeroTables words
-tablesOf (accepted ps rows) words = record {
+tablesOf (accepted (ps, rows)) words = record {
   tokens = holding tokenRow ps (words .tokens);
   sets = holding setWords (rows .sets) (words .sets);
   names = holding nameWords (rows .names) (words .names);
@@ -73,10 +72,14 @@ tablesOf (accepted ps rows) words = record {
   values = holding valueWords (rows .values) (words .values);
 }
 
--- what the grammar and the room decide: refusal and place, both 0 when accepted
-unfoldable pub judgedOf : Outcome → Judged
-judgedOf (refused n place) = record { refusal = n; place = place }
-judgedOf (accepted ps rows) = record { refusal = 0; place = 0 }
+-- refusal and place of what the grammar and the room decide, both 0 when accepted
+unfoldable pub judgedOf : {A : Type 0} → Outcome A → Judged
+judgedOf o = record { refusal = refusalOf o; place = placeOf o }
+
+-- what a call that reads first and then does more leaves in the tables: the reading, or on a refusal what reading leaves on one
+unfoldable pub readingOf : {A : Type 0} → Outcome (FileRows × A) → ReadOutcome
+readingOf (refused n place) = refused n place
+readingOf (accepted (read, more)) = accepted read
 
 -- an answer of the rows' reader to a run over so many tokens: refusal and how many tokens stand before the bad one, or the numbers of rows
 abbrev pub Ran : Run → ℕ → Parsed → Type 0
@@ -85,21 +88,22 @@ Ran (good rows) count r =
     (r .refusal ≡ 0) × (r .tokens ≡ count) × (r .sets ≡ length (rows .sets)) × (r .names ≡ length (rows .names))
     × (r .packets ≡ length (rows .packets)) × (r .values ≡ length (rows .values))
 
--- 7 for tables 2 to 5 by their numbers of rows and words, the lowest first
-unfoldable pub roomOf : (sets names packets values setWords nameWords packetWords valueWords : ℕ) → Judged
-roomOf s n p v sw nw pw vw =
-    cond (ltb sw (s * setWidth)) (record { refusal = 7; place = 2 })
-    (cond (ltb nw (n * nameWidth)) (record { refusal = 7; place = 3 })
-    (cond (ltb pw (p * packetWidth)) (record { refusal = 7; place = 4 })
-    (cond (ltb vw (v * valueWidth)) (record { refusal = 7; place = 5 }) (record { refusal = 0; place = 0 }))))
-
 -- the tables are left as the outcome says
-pub record Leaves (o : Outcome) (words : Sizes) (t : Tables) : Type 0 where
+pub record Leaves (o : ReadOutcome) (words : Sizes) (t : Tables) : Type 0 where
   pub tokens : t .tokens ≡ tablesOf o words .tokens
   pub sets : t .sets ≡ tablesOf o words .sets
   pub names : t .names ≡ tablesOf o words .names
   pub packets : t .packets ≡ tablesOf o words .packets
   pub values : t .values ≡ tablesOf o words .values
+
+-- the answer and the tables are an outcome's
+pub record Gives (o : ReadOutcome) (before after : Tables) (r : Reading) : Type 0 where
+  pub answer : r ≡ readAnswer o
+  pub leaves : Leaves o (sizes before) after
+
+-- the contract of reading: the answer, and every word of the five tables
+abbrev pub Reads : (file : List ℕ) (before after : Tables) → Reading → Type 0
+Reads file before after r = Gives (readOf file (sizes before)) before after r
 
 -- tables 2 to 5 are 0 behind their rows, and as they were before
 pub record ClearedBehind (rows : Parsed) (before after : FourTables) : Type 0 where

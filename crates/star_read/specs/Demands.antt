@@ -4,19 +4,19 @@ use mathlib.Core.Logic.{_⊎_, _↔_}
 use mathlib.Core.List.{List, [], _∷_, _++_}
 use Prim.Native.Nat.{ℕ, _*_, _≤_, _<_}
 use lib.ListN.{length}
+use Rattle.star_text.specs.Outcome.{refused, accepted}
 use Rattle.star_rows.specs.Widths.{tokenWidth, setWidth, nameWidth, packetWidth, valueWidth}
 use Rattle.star_text.specs.Bytes.{mostBytes}
 use Rattle.star_lex.specs.Rules.{Rules, today, atLevels}
 use Rattle.star_lex.specs.Rules.{Rules, atLevels}
 use Rattle.star_lex.specs.Tokens.{Token, Placed, Each}
 use Rattle.star_lex.specs.Split.{tokensBy, tokensOf}
-use Rattle.star_lex.specs.Split as Split
 use Rattle.star_grammar.specs.Tree.{File, fileYield, FileBy, IsName, IsValue}
 use Rattle.star_grammar.specs.Tables.{Rows, rowsOf}
 use Rattle.star_grammar.specs.Reading.{ReadingBy, Reading}
-use Rattle.star_read.specs.Answer.{answerOf, Tables, zeroTables, tablesOf}
+use Rattle.star_read.specs.Answer.{readAnswer, Tables, zeroTables, tablesOf}
 use Rattle.star_read.specs.declared.Reading as Answer
-use Rattle.star_read.specs.Read.{Outcome, refused, accepted, Sizes, tokensOnly, readOf, readBy}
+use Rattle.star_read.specs.Read.{ReadOutcome, Sizes, tokensOnly, readOf, readBy}
 
 -- rules by which every file that is begun can be completed: loops have a level, and names may be so long that a file within the size limit has not
 -- taken all of them
@@ -29,7 +29,7 @@ pub record Usable (rules : Rules) : Type 0 where
 pub record Begins (rules : Rules) (p : List Token) : Type 0 where
   pub file : List ℕ
   pub tokens : List Placed
-  pub splits : tokensBy rules file ≡ Split.accepted tokens
+  pub splits : tokensBy rules file ≡ accepted tokens
   pub reading : ReadingBy rules (tokensOnly tokens)
   pub rest : List Token
   pub starts : tokensOnly tokens ≡ p ++ rest
@@ -44,7 +44,7 @@ pub record Room (words : Sizes) (rows : Rows) : Type 0 where
 -- a file within the size limit that splits into these tokens, and a table 1 with room for them
 pub record Tokenized (rules : Rules) (file : List ℕ) (words : Sizes) (ps : List Placed) : Type 0 where
   pub small : length file ≤ mostBytes
-  pub splits : tokensBy rules file ≡ Split.accepted ps
+  pub splits : tokensBy rules file ≡ accepted ps
   pub room : length ps * tokenWidth ≤ words .tokens
 
 -- such a file, and tables 2 to 5 with room for the rows of its reading, if it has one
@@ -61,7 +61,7 @@ pub data FirstBad (rules : Rules) (file : List ℕ) (ps : List Placed) (place : 
 -- demand 3, first sentence: accepted exactly when it has a reading
 abbrev pub AcceptedExactly : Type 0
 AcceptedExactly = (rules : Rules) → Usable rules → (file : List ℕ) (words : Sizes) (ps : List Placed) → Fair rules file words ps
-    → ((rows : Rows) × (readBy rules file words ≡ accepted ps rows)) ↔ ReadingBy rules (tokensOnly ps)
+    → ((rows : Rows) × (readBy rules file words ≡ accepted (ps, rows))) ↔ ReadingBy rules (tokensOnly ps)
 
 -- second: any two readings are equal
 abbrev pub OneReading : Type 0
@@ -70,8 +70,8 @@ OneReading = (rules : Rules) (ts : List Token) (r s : ReadingBy rules ts) → r 
 -- third: after acceptance tables and counts are those of the reading
 abbrev pub RowsOfReading : Type 0
 RowsOfReading = (rules : Rules) → Usable rules → (file : List ℕ) (words : Sizes) (ps : List Placed) (rows : Rows)
-    → readBy rules file words ≡ accepted ps rows
-    → (tokensBy rules file ≡ Split.accepted ps) × (r : ReadingBy rules (tokensOnly ps)) × (rows ≡ rowsOf (r .tree))
+    → readBy rules file words ≡ accepted (ps, rows)
+    → (tokensBy rules file ≡ accepted ps) × (r : ReadingBy rules (tokensOnly ps)) × (rows ≡ rowsOf (r .tree))
 
 -- fourth: the place of a refusal
 abbrev pub PlaceOfRefusal : Type 0
@@ -82,7 +82,7 @@ PlaceOfRefusal = (rules : Rules) → Usable rules → (file : List ℕ) (words :
 pub record BeginsShape (rules : Rules) (p : List Token) : Type 0 where
   pub file : List ℕ
   pub tokens : List Placed
-  pub splits : tokensBy rules file ≡ Split.accepted tokens
+  pub splits : tokensBy rules file ≡ accepted tokens
   pub tree : File
   pub yield : fileYield tree ≡ tokensOnly tokens
   pub whole : FileBy rules tree
@@ -149,17 +149,17 @@ pub data Short (words : Sizes) (rows : Rows) : (table : ℕ) → Type 0 where
       → words .values < length (rows .values) * valueWidth → Short words rows 5
 
 -- what reading gives, of any file and any tables: the refusals in order of checking, or the rows of the reading
-pub data Settles (rules : Rules) (file : List ℕ) (words : Sizes) : Outcome → Type 0 where
+pub data Settles (rules : Rules) (file : List ℕ) (words : Sizes) : ReadOutcome → Type 0 where
   over-size : mostBytes < length file → Settles rules file words (refused 1 0)
-  unsplit : (n place : ℕ) → length file ≤ mostBytes → tokensBy rules file ≡ Split.refused n place → Settles rules file words (refused n place)
-  no-token-room : (ps : List Placed) → length file ≤ mostBytes → tokensBy rules file ≡ Split.accepted ps → words .tokens < length ps * tokenWidth
+  unsplit : (n place : ℕ) → length file ≤ mostBytes → tokensBy rules file ≡ refused n place → Settles rules file words (refused n place)
+  no-token-room : (ps : List Placed) → length file ≤ mostBytes → tokensBy rules file ≡ accepted ps → words .tokens < length ps * tokenWidth
       → Settles rules file words (refused 7 1)
   no-reading : (ps : List Placed) (n place : ℕ) → Tokenized rules file words ps → (ReadingBy rules (tokensOnly ps) → ⊥) → Bad rules file ps n place
       → Settles rules file words (refused n place)
   no-room : (ps : List Placed) (table : ℕ) → Tokenized rules file words ps → (r : ReadingBy rules (tokensOnly ps)) → Short words (rowsOf (r .tree)) table
       → Settles rules file words (refused 7 table)
   reads : (ps : List Placed) → Tokenized rules file words ps → (r : ReadingBy rules (tokensOnly ps)) → Room words (rowsOf (r .tree))
-      → Settles rules file words (accepted ps (rowsOf (r .tree)))
+      → Settles rules file words (accepted (ps, rowsOf (r .tree)))
 
 -- reading is settled for every file and any tables
 abbrev pub ReadingSettled : Type 0
@@ -167,7 +167,7 @@ ReadingSettled = (rules : Rules) → Usable rules → (file : List ℕ) (words :
 
 -- and there is one outcome
 abbrev pub OneOutcome : Type 0
-OneOutcome = (rules : Rules) → Usable rules → (file : List ℕ) (words : Sizes) (o u : Outcome) → Settles rules file words o
+OneOutcome = (rules : Rules) → Usable rules → (file : List ℕ) (words : Sizes) (o u : ReadOutcome) → Settles rules file words o
     → Settles rules file words u → o ≡ u
 
 -- the numbers that reading gives, each with the places that it may have in a file of that many bytes
@@ -182,7 +182,7 @@ pub data Numbered (size : ℕ) : (number place : ℕ) → Type 0 where
 pub record HasReading (file : List ℕ) : Type 0 where
   pub small : length file ≤ mostBytes
   pub tokens : List Placed
-  pub splits : tokensOf file ≡ Split.accepted tokens
+  pub splits : tokensOf file ≡ accepted tokens
   pub reading : Reading (tokensOnly tokens)
 
 -- demand 1, of reading: its answer is 0 and 0 only with a reading; else one of the numbers with its place, no rows, and every word 0
@@ -192,4 +192,4 @@ pub data ReadAnswer (file : List ℕ) (words : Sizes) : Answer.Reading → Table
       → ReadAnswer file words (record { refusal = n; place = place; tokens = 0; sets = 0; names = 0; packets = 0; values = 0 }) (zeroTables words)
 
 abbrev pub ReadAnswers : Type 0
-ReadAnswers = (file : List ℕ) (words : Sizes) → ReadAnswer file words (answerOf (readOf file words)) (tablesOf (readOf file words) words)
+ReadAnswers = (file : List ℕ) (words : Sizes) → ReadAnswer file words (readAnswer (readOf file words)) (tablesOf (readOf file words) words)

@@ -2,9 +2,10 @@
 use mathlib.Core.Path.{_≡_}
 use mathlib.Core.List.{List, [], _∷_, map}
 use Prim.Native.Nat.{ℕ}
+use Rattle.star_text.specs.Outcome.{refused, accepted}
 use Rattle.star_lex.specs.Tokens.{Token}
 use Rattle.star_lex.specs.Plain.{plainOf}
-use Rattle.star_read.specs.Read.{Outcome, refused, accepted, Sizes, tokensOnly, readOf}
+use Rattle.star_read.specs.Read.{ReadOutcome, Sizes, tokensOnly, readOf}
 use Rattle.star_read.specs.Answer.{tables, tablesOf}
 
 -- tables of so many words each
@@ -12,9 +13,9 @@ abbrev pub ofWords : ℕ → Sizes
 ofWords n = record { tokens = n; sets = n; names = n; packets = n; values = n }
 
 -- the tokens of an accepted file
-unfoldable pub readTokens : Outcome → List Token
+unfoldable pub readTokens : ReadOutcome → List Token
 readTokens (refused n place) = []
-readTokens (accepted ps rows) = tokensOnly ps
+readTokens (accepted (ps, rows)) = tokensOnly ps
 
 -- `data_a/loop_/_x/loop_/_y/1 2 3 stop_ 4 stop_/`
 abbrev pub fullCase : List ℕ

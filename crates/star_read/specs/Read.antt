@@ -2,24 +2,25 @@
 -- refused is said without a machine by specs/Demands.antt.
 use mathlib.Core.Bool.{cond}
 use mathlib.Core.List.{List, [], _∷_, map}
-use Prim.Native.Nat.{ℕ, zero, suc, _*_}
+use Prim.Native.Nat.{ℕ, zero, suc}
 use lib.Dec.{ltb}
 use lib.ListN.{length}
+use Rattle.star_text.specs.Outcome.{Outcome, refused, accepted, then, need}
+use Rattle.star_rows.specs.Rows.{hasRoom}
 use Rattle.star_rows.specs.Widths.{setWidth, nameWidth, packetWidth, valueWidth}
-use Rattle.star_lex.specs.Rules.{today}
 use Rattle.star_lex.specs.Rules.{Rules, today}
 use Rattle.star_lex.specs.Tokens.{Token, Placed}
-use Rattle.star_lex.specs.Split.{Split}
-use Rattle.star_lex.specs.Split as Split
 use Rattle.star_lex.specs.Found.{tokensInBy}
 use Rattle.star_grammar.specs.Tables.{Rows, noRows}
 use Rattle.star_grammar.specs.Machine.{Run, bad, good, run, start}
 use Rattle.star_unique.specs.Repeat.{nothing, firstRepeat}
 
--- refusal and place, or the tokens and the rows of tables 2 to 5
-pub data Outcome : Type 0 where
-  refused : (number place : ℕ) → Outcome
-  accepted : List Placed → Rows → Outcome
+-- what is accepted: the tokens, and the rows of tables 2 to 5
+abbrev pub FileRows : Type 0
+FileRows = List Placed × Rows
+
+abbrev pub ReadOutcome : Type 0
+ReadOutcome = Outcome FileRows
 
 -- the words of the five tables
 pub record Sizes : Type 0 where
@@ -33,36 +34,34 @@ abbrev pub tokensOnly : List Placed → List Token
 tokensOnly ps = map (λ p. p .token) ps
 
 -- the first byte of the token that has so many before it, or the file's length
-unfoldable pub placeOf : (size : ℕ) → List Placed → ℕ → ℕ
-placeOf size [] n = size
-placeOf size (p ∷ ps) zero = p .at
-placeOf size (p ∷ ps) (suc n) = placeOf size ps n
+unfoldable pub tokenPlace : (size : ℕ) → List Placed → ℕ → ℕ
+tokenPlace size [] n = size
+tokenPlace size (p ∷ ps) zero = p .at
+tokenPlace size (p ∷ ps) (suc n) = tokenPlace size ps n
 
 -- the grammar, the first bad token deciding: a name or code that is taken counts where it comes before the token that is out of place
-unfoldable pub decide : (size : ℕ) → List Placed → (taken : ℕ) → Run → Outcome
-decide size ps taken (bad n i) = cond (ltb taken i) (refused 9 (placeOf size ps taken)) (refused n (placeOf size ps i))
-decide size ps taken (good rows) = cond (ltb taken (length ps)) (refused 9 (placeOf size ps taken)) (accepted ps rows)
+unfoldable pub decide : (size : ℕ) → List Placed → (taken : ℕ) → Run → ReadOutcome
+decide size ps taken (bad n i) = cond (ltb taken i) (refused 9 (tokenPlace size ps taken)) (refused n (tokenPlace size ps i))
+decide size ps taken (good rows) = cond (ltb taken (length ps)) (refused 9 (tokenPlace size ps taken)) (accepted (ps, rows))
 
-unfoldable pub grammarOf : (rules : Rules) → (size : ℕ) → List Placed → Outcome
+unfoldable pub grammarOf : (rules : Rules) → (size : ℕ) → List Placed → ReadOutcome
 grammarOf rules size ps = decide size ps (firstRepeat nothing (tokensOnly ps)) (run rules start (tokensOnly ps) noRows)
 
--- last, 7 for tables 2 to 5, the lowest number first
-unfoldable pub fitting : Sizes → Outcome → Outcome
-fitting words (refused n place) = refused n place
-fitting words (accepted ps rows) =
-    cond (ltb (words .sets) (length (rows .sets) * setWidth)) (refused 7 2)
-    (cond (ltb (words .names) (length (rows .names) * nameWidth)) (refused 7 3)
-    (cond (ltb (words .packets) (length (rows .packets) * packetWidth)) (refused 7 4)
-    (cond (ltb (words .values) (length (rows .values) * valueWidth)) (refused 7 5) (accepted ps rows))))
+-- 7 for tables 2 to 5 by their numbers of rows, the lowest table first
+unfoldable pub roomFor : {A : Type 0} → (sets names packets values : ℕ) → Sizes → Outcome A → Outcome A
+roomFor s n p v words o =
+    need (hasRoom s setWidth (words .sets)) 7 2
+    (need (hasRoom n nameWidth (words .names)) 7 3
+    (need (hasRoom p packetWidth (words .packets)) 7 4 (need (hasRoom v valueWidth (words .values)) 7 5 o)))
 
--- after the refusals of the tokens
-unfoldable pub after : (rules : Rules) → (size : ℕ) → Sizes → Split → Outcome
-after rules size words (Split.refused n place) = refused n place
-after rules size words (Split.accepted ps) = fitting words (grammarOf rules size ps)
+unfoldable pub rowsFit : Sizes → FileRows → ReadOutcome
+rowsFit words (ps, rows) =
+    roomFor (length (rows .sets)) (length (rows .names)) (length (rows .packets)) (length (rows .values)) words (accepted (ps, rows))
 
-unfoldable pub readBy : (rules : Rules) → List ℕ → Sizes → Outcome
-readBy rules file words = after rules (length file) words (tokensInBy rules file (words .tokens))
+-- the refusals of the tokens, then those of the grammar, then those of the room
+unfoldable pub readBy : (rules : Rules) → List ℕ → Sizes → ReadOutcome
+readBy rules file words = then (tokensInBy rules file (words .tokens)) (λ ps. then (grammarOf rules (length file) ps) (rowsFit words))
 
 -- by today's rules
-abbrev pub readOf : List ℕ → Sizes → Outcome
+abbrev pub readOf : List ℕ → Sizes → ReadOutcome
 readOf file words = readBy today file words

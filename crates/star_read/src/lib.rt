@@ -1,5 +1,6 @@
 // Reading a STAR File from lent bytes into five lent tables.
 ghost use mathlib.Core.Path.{_≡_};
+ghost use Prim.Native.Nat.{ℕ};
 ghost use lib.ListN.{length};
 ghost use Rattle.star_lex.specs.Rules.{today};
 ghost use Rattle.star_lex.specs.Split.{placed, tokensOf};
@@ -7,8 +8,9 @@ ghost use Rattle.star_grammar.specs.Tables.{noRows};
 ghost use Rattle.star_grammar.specs.Machine.{run, start};
 ghost use Rattle.star_lex.specs.Holds.{Holds, fileTokens};
 ghost use Rattle.star_unique.specs.Repeat.{nothing, firstRepeat};
-ghost use Rattle.star_read.specs.Read.{refused, placeOf, fitting, grammarOf, readOf};
-ghost use Rattle.star_read.specs.Answer.{answerOf, tables, sizes, judgedOf, words, roomOf, Ran, Leaves, ClearedBehind};
+ghost use Rattle.star_text.specs.Outcome.{refused, accepted, then};
+ghost use Rattle.star_read.specs.Read.{tokenPlace, roomFor, rowsFit, grammarOf};
+ghost use Rattle.star_read.specs.Answer.{tables, sizes, judgedOf, words, Ran, Leaves, Gives, Reads, ClearedBehind};
 ghost use Rattle.star_parse.specs.Parsed.{tables as four};
 use star_parse::Parsed;
 
@@ -33,7 +35,7 @@ pub struct Judged {
 // The first byte of the token that has so many before it, or the file's length.
 fn place_of(file: &[u8], tokens: &[u32], count: usize, before: usize) -> u32
     requires { ⌜ Holds (now file) (now tokens) count ⌝ }
-    ensures { λ r. ⌜ r ≡ placeOf (length (now (file .entry))) (placed (tokensOf (now (file .entry)))) before ⌝ }
+    ensures { λ r. ⌜ r ≡ tokenPlace (length (now (file .entry))) (placed (tokensOf (now (file .entry)))) before ⌝ }
 {
     if before < count {
         star_lex::first_byte(tokens, before)
@@ -44,7 +46,7 @@ fn place_of(file: &[u8], tokens: &[u32], count: usize, before: usize) -> u32
 
 // Refusal 7 for the lowest table of 2 to 5 that is too short for its rows.
 fn room(rows: Parsed, sets: usize, names: usize, packets: usize, values: usize) -> Judged
-    ensures { λ r. ⌜ r ≡ roomOf (rows .sets) (rows .names) (rows .packets) (rows .values) sets names packets values ⌝ }
+    ensures { λ r. ⌜ r ≡ judgedOf (roomFor (rows .sets) (rows .names) (rows .packets) (rows .values) (words 0 sets names packets values) (accepted rows)) ⌝ }
 {
     if !star_rows::fits(rows.sets, star_rows::SET_WIDTH, sets) {
         return Judged {
@@ -91,8 +93,8 @@ fn judge(
     requires { ⌜ Holds (now file) (now tokens) count ⌝ }
     requires { ⌜ taken ≡ firstRepeat nothing (fileTokens (now file)) ⌝ }
     requires { ⌜ Ran (run today start (fileTokens (now file)) noRows) count rows ⌝ }
-    ensures { λ r. ⌜ r ≡ judgedOf (fitting (words (length (now (tokens .entry))) sets names packets values)
-        (grammarOf today (length (now (file .entry))) (placed (tokensOf (now (file .entry)))))) ⌝ }
+    ensures { λ r. ⌜ r ≡ judgedOf (then (grammarOf today (length (now (file .entry))) (placed (tokensOf (now (file .entry)))))
+        (rowsFit (words (length (now (tokens .entry))) sets names packets values))) ⌝ }
 {
     if taken < rows.tokens {
         return Judged {
@@ -110,6 +112,25 @@ fn judge(
     room(rows, sets, names, packets, values)
 }
 
+// Sets every word of the five tables to 0, as every refusal leaves them.
+pub fn clear_tables(
+    tokens: &mut [u32],
+    sets: &mut [u32],
+    names: &mut [u32],
+    packets: &mut [u32],
+    values: &mut [u32],
+)
+    ensures { λ _. ⌜ ((n place : ℕ) → Leaves (refused n place)
+        (sizes (tables (now (tokens .entry)) (now (sets .entry)) (now (names .entry)) (now (packets .entry)) (now (values .entry))))
+        (tables (now (tokens .exit)) (now (sets .exit)) (now (names .exit)) (now (packets .exit)) (now (values .exit)))) ⌝ }
+{
+    star_rows::clear_from(tokens, 0);
+    star_rows::clear_from(sets, 0);
+    star_rows::clear_from(names, 0);
+    star_rows::clear_from(packets, 0);
+    star_rows::clear_from(values, 0);
+}
+
 // A refusal: every word of every table is 0.
 fn refuse(
     tokens: &mut [u32],
@@ -120,16 +141,11 @@ fn refuse(
     refusal: u32,
     place: u32,
 ) -> Reading
-    ensures { λ r. ⌜ r ≡ answerOf (refused refusal place) ⌝ }
-    ensures { λ _. ⌜ Leaves (refused refusal place)
-        (sizes (tables (now (tokens .entry)) (now (sets .entry)) (now (names .entry)) (now (packets .entry)) (now (values .entry))))
-        (tables (now (tokens .exit)) (now (sets .exit)) (now (names .exit)) (now (packets .exit)) (now (values .exit))) ⌝ }
+    ensures { λ r. ⌜ Gives (refused refusal place)
+        (tables (now (tokens .entry)) (now (sets .entry)) (now (names .entry)) (now (packets .entry)) (now (values .entry)))
+        (tables (now (tokens .exit)) (now (sets .exit)) (now (names .exit)) (now (packets .exit)) (now (values .exit))) r ⌝ }
 {
-    star_rows::clear_from(tokens, 0);
-    star_rows::clear_from(sets, 0);
-    star_rows::clear_from(names, 0);
-    star_rows::clear_from(packets, 0);
-    star_rows::clear_from(values, 0);
+    clear_tables(tokens, sets, names, packets, values);
     Reading {
         refusal,
         place,
@@ -177,12 +193,10 @@ fn read_tables(
 ) -> Reading
     requires { ⌜ Holds (now file) (now tokens) count ⌝ }
     requires { ⌜ taken ≡ firstRepeat nothing (fileTokens (now file)) ⌝ }
-    ensures { λ r. ⌜ r ≡ answerOf (fitting (sizes (tables (now (tokens .entry)) (now (sets .entry)) (now (names .entry)) (now (packets .entry)) (now (values .entry))))
-        (grammarOf today (length (now (file .entry))) (placed (tokensOf (now (file .entry)))))) ⌝ }
-    ensures { λ _. ⌜ Leaves (fitting (sizes (tables (now (tokens .entry)) (now (sets .entry)) (now (names .entry)) (now (packets .entry)) (now (values .entry))))
-        (grammarOf today (length (now (file .entry))) (placed (tokensOf (now (file .entry))))))
-        (sizes (tables (now (tokens .entry)) (now (sets .entry)) (now (names .entry)) (now (packets .entry)) (now (values .entry))))
-        (tables (now (tokens .exit)) (now (sets .exit)) (now (names .exit)) (now (packets .exit)) (now (values .exit))) ⌝ }
+    ensures { λ r. ⌜ Gives (then (grammarOf today (length (now (file .entry))) (placed (tokensOf (now (file .entry)))))
+        (rowsFit (sizes (tables (now (tokens .entry)) (now (sets .entry)) (now (names .entry)) (now (packets .entry)) (now (values .entry))))))
+        (tables (now (tokens .entry)) (now (sets .entry)) (now (names .entry)) (now (packets .entry)) (now (values .entry)))
+        (tables (now (tokens .exit)) (now (sets .exit)) (now (names .exit)) (now (packets .exit)) (now (values .exit))) r ⌝ }
 {
     let n = count as usize;
     let rows = star_parse::read_rows(tokens, n, sets, names, packets, values);
@@ -229,12 +243,9 @@ pub fn read(
     packets: &mut [u32],
     values: &mut [u32],
 ) -> Reading
-    ensures { λ r. ⌜ r ≡ answerOf (readOf (now (file .entry))
-        (sizes (tables (now (tokens .entry)) (now (sets .entry)) (now (names .entry)) (now (packets .entry)) (now (values .entry))))) ⌝ }
-    ensures { λ _. ⌜ Leaves (readOf (now (file .entry))
-        (sizes (tables (now (tokens .entry)) (now (sets .entry)) (now (names .entry)) (now (packets .entry)) (now (values .entry)))))
-        (sizes (tables (now (tokens .entry)) (now (sets .entry)) (now (names .entry)) (now (packets .entry)) (now (values .entry))))
-        (tables (now (tokens .exit)) (now (sets .exit)) (now (names .exit)) (now (packets .exit)) (now (values .exit))) ⌝ }
+    ensures { λ r. ⌜ Reads (now (file .entry))
+        (tables (now (tokens .entry)) (now (sets .entry)) (now (names .entry)) (now (packets .entry)) (now (values .entry)))
+        (tables (now (tokens .exit)) (now (sets .exit)) (now (names .exit)) (now (packets .exit)) (now (values .exit))) r ⌝ }
 {
     let found = star_unique::read_tokens(file, tokens);
     if found.refusal != 0 {

@@ -1,4 +1,6 @@
+pub mod Cases
 pub mod Bytes
 pub mod Classes
 pub mod Names
+pub mod Outcome
 pub mod Run

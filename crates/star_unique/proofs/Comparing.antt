@@ -1,10 +1,12 @@
 -- What reading the tokens of a file answers, by its split.
-use mathlib.Core.Path.{_≡_, refl, sym, _∙_, ap}
-use mathlib.Core.List.{List}
+use mathlib.Core.Path.{_≡_, sym, _∙_, ap}
+use mathlib.Core.List.{List, map}
 use Prim.Native.Nat.{ℕ}
 use lib.ListN.{length}
 use Rattle.star_lex.specs.Tokens.{Placed}
-use Rattle.star_lex.specs.Split.{Split, refused, accepted}
+use Rattle.star_text.specs.Outcome.{refused, accepted}
+use Rattle.star_lex.specs.Split.{Split, placed}
+use Rattle.star_text.proofs.Outcome.{told-refused, told-accepted}
 use Rattle.star_lex.specs.Found.{tokensIn}
 use Rattle.star_lex.proofs.Answers.{in-number}
 use Rattle.star_lex.proofs.Held.{accepted-tokens}
@@ -16,19 +18,16 @@ use Rattle.star_unique.specs.declared.Compared.{Compared}
 -- an answer tells the split
 pub compared-refused : (s : Split) (r : Compared) → r ≡ comparedOf s → (r .refusal ≡ 0 → ⊥) → s ≡ refused (r .refusal) (r .place)
 unfolding comparedOf
-compared-refused (refused n place) r e f =
-    let a : r .refusal ≡ n = ap (λ t. t .refusal) e in
-    let b : r .place ≡ place = ap (λ t. t .place) e in
-    cc
-compared-refused (accepted ps) r e f = absurd (f (ap (λ t. t .refusal) e))
+compared-refused s r e f = told-refused s _ _ (ap (λ t. t .refusal) e) (ap (λ t. t .place) e) f
 
 pub compared-accepted : (file : List ℕ) (words : ℕ) (r : Compared) → r ≡ comparedOf (tokensIn file words) → r .refusal ≡ 0
     → (ps : List Placed) × (tokensIn file words ≡ accepted ps) × (r .count ≡ length ps) × (r .taken ≡ firstRepeat nothing (fileTokens file))
-unfolding comparedOf
-compared-accepted file words r e z = go (tokensIn file words) refl e
-  where
-    go : (s : Split) → tokensIn file words ≡ s → r ≡ comparedOf s
-        → (ps : List Placed) × (tokensIn file words ≡ accepted ps) × (r .count ≡ length ps) × (r .taken ≡ firstRepeat nothing (fileTokens file))
-    go (refused n place) q d = absurd (in-number file words n place q (sym (ap (λ t. t .refusal) d) ∙ z))
-    go (accepted ps) q d =
-        (ps, q, ap (λ t. t .count) d, ap (λ t. t .taken) d ∙ ap (firstRepeat nothing) (sym (accepted-tokens file words ps q)))
+unfolding comparedOf placed
+compared-accepted file words r e z =
+    let (ps, q) = told-accepted (tokensIn file words) (in-number file words) (sym (ap (λ t. t .refusal) e) ∙ z) in (
+      ps,
+      q,
+      ap (λ t. t .count) e ∙ ap (λ t. length (placed t)) q,
+      ap (λ t. t .taken) e ∙ ap (λ t. firstRepeat nothing (map (λ p. p .token) (placed t))) q
+          ∙ ap (firstRepeat nothing) (sym (accepted-tokens file words ps q)),
+    )

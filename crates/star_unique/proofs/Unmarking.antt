@@ -9,7 +9,8 @@ use borrow.Author.Tests.{ltb-true, ltb-false, eqb-true, ne-eqb}
 use lib.ListN.{length, getD, set, length-set}
 use lib.Seq.{ext-getD}
 use Rattle.star_lex.specs.Tokens.{Token, Each}
-use Rattle.star_lex.specs.Split.{Split, refused, accepted, tokensOf, placed}
+use Rattle.star_text.specs.Outcome.{refused, accepted}
+use Rattle.star_lex.specs.Split.{Split, tokensOf, placed}
 use Rattle.star_lex.specs.WellFormed.{WellFormed, block, frame, frameEnd, loop, stop, name, word, reference, single, double, text, global}
 use Rattle.star_lex.proofs.WellFormed.{split-well-formed}
 use Rattle.star_lex.specs.Holds.{Holds, fileTokens, tokenAt}

@@ -1,11 +1,24 @@
 -- What reading the tokens of a file and comparing its names and codes answers.
-use mathlib.Core.List.{map}
+use mathlib.Core.Path.{_≡_}
+use mathlib.Core.List.{List, map}
+use Prim.Native.Nat.{ℕ}
 use lib.ListN.{length}
-use Rattle.star_lex.specs.Split.{Split, refused, accepted}
+use Rattle.star_text.specs.Outcome.{refusalOf, placeOf}
+use Rattle.star_lex.specs.Split.{Split, placed}
+use Rattle.star_lex.specs.Found.{tokensIn, tableOf}
 use Rattle.star_unique.specs.Repeat.{nothing, firstRepeat}
 use Rattle.star_unique.specs.declared.Compared.{Compared}
 
 -- refusal, place and number of tokens; and how many tokens stand before the first that repeats a name or code of its scope
 unfoldable pub comparedOf : Split → Compared
-comparedOf (refused n place) = record { refusal = n; place = place; count = 0; taken = 0 }
-comparedOf (accepted ps) = record { refusal = 0; place = 0; count = length ps; taken = firstRepeat nothing (map (λ p. p .token) ps) }
+comparedOf s = record {
+  refusal = refusalOf s;
+  place = placeOf s;
+  count = length (placed s);
+  taken = firstRepeat nothing (map (λ p. p .token) (placed s));
+}
+
+-- the contract of splitting and comparing: the answer, and every word of table 1
+pub record Compares (file before after : List ℕ) (r : Compared) : Type 0 where
+  pub answer : r ≡ comparedOf (tokensIn file (length before))
+  pub table : after ≡ tableOf (tokensIn file (length before)) (length before)

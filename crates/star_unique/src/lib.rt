@@ -6,12 +6,11 @@ ghost use Prim.Native.Nat.{_+_, _*_, _%_, _≤_, _<_};
 ghost use lib.Dec.{eqb};
 ghost use lib.ListN.{length, getD};
 ghost use Rattle.star_text.specs.Names.{same as Names·same};
-ghost use Rattle.star_lex.specs.Found.{tokensIn, tableOf as Found·tableOf};
 ghost use Rattle.star_unique.specs.Repeat.{nothing, firstRepeat};
 ghost use Rattle.star_lex.specs.Holds.{Holds, fileTokens, tokenAt};
 ghost use Rattle.star_unique.specs.Chain.{sortOf, floorOf, passed, scopeAt, bucketOf, bucketAt, latest, earlier, kindOf, tableOf};
 ghost use Rattle.star_unique.specs.Marked.{Spans, Marked, Heads, Visited};
-ghost use Rattle.star_unique.specs.Compared.{comparedOf};
+ghost use Rattle.star_unique.specs.Compared.{Compares};
 
 // The part of the file that token `n` spans.
 fn span<'a>(file: &'a [u8], tokens: &[u32], count: usize, n: usize) -> &'a [u8]
@@ -255,9 +254,7 @@ pub struct Compared {
 
 // Splits a file into tokens, stores them as table 1, and looks for the first that repeats a name or code; on a refusal every word of the table is 0.
 pub fn read_tokens(file: &[u8], table: &mut [u32]) -> Compared
-    ensures { λ r. ⌜ r ≡ comparedOf (tokensIn (now (file .entry)) (length (now (table .entry)))) ⌝ }
-    ensures { λ _. ⌜ now (table .exit)
-        ≡ Found·tableOf (tokensIn (now (file .entry)) (length (now (table .entry)))) (length (now (table .entry))) ⌝ }
+    ensures { λ r. ⌜ Compares (now (file .entry)) (now (table .entry)) (now (table .exit)) r ⌝ }
 {
     let found = star_lex::read_tokens(file, table);
     if found.refusal != 0 {

@@ -8,52 +8,48 @@ use native.Mathlib.Omega.{arith}
 use borrow.Author.Tests.{leb-true, le-leb, lt-leb}
 use lib.Dec.{leb}
 use lib.ListN.{length, replicate}
+use Rattle.star_text.specs.Outcome.{refused, accepted, then, need}
+use Rattle.star_text.proofs.Outcome.{accepted-same, need-accepted, need-refused, then-accepted, then-refused, NotZero}
 use Rattle.star_text.specs.Bytes.{mostBytes}
 use Rattle.star_lex.specs.Tokens.{Placed}
 use Rattle.star_lex.specs.Plain.{plainOf}
-use Rattle.star_lex.proofs.Cases.{impossible, cond-cases}
+use Rattle.star_lex.proofs.Cases.{impossible}
 use Rattle.star_grammar.specs.Tables.{Rows}
 use Rattle.star_lex.specs.Holds.{fileTokens}
-use Rattle.star_read.specs.Read.{Outcome, Sizes, tokensOnly, readOf}
-use Rattle.star_read.specs.Read as Read
-use Rattle.star_read.specs.Answer.{Tables, Leaves}
-use Rattle.star_read.specs.Answer as Answer
+use Rattle.star_read.specs.Read.{FileRows, Sizes, tokensOnly, readOf}
+use Rattle.star_read.specs.Answer.{readAnswer, readingOf, Tables, Leaves}
 use Rattle.star_read.specs.declared.Reading.{Reading}
 use Rattle.star_read.proofs.Accepted.{read-number, answer-refused, answer-accepted, tokens-file}
-use Rattle.star_write.specs.Write.{Writing, refused, written, fitting, after, writeOf}
-use Rattle.star_write.specs.Answer.{readingOf, bytesOf, outputOf, answerOf}
+use Rattle.star_write.specs.Write.{Writing, written, plainFits, writeOf}
+use Rattle.star_write.specs.Answer.{bytesOf, outputOf, writeAnswer}
 use Rattle.star_write.specs.declared.Written.{Written}
 
 -- what was written: the file was accepted, and its plain form is within the size limit and the output
 pub record Wrote (file : List ℕ) (words : Sizes) (room : ℕ) (ps : List Placed) (rows : Rows) (plain : List ℕ) : Type 0 where
-  pub reads : readOf file words ≡ Read.accepted ps rows
+  pub reads : readOf file words ≡ accepted (ps, rows)
   pub plain-is : plainOf (tokensOnly ps) ≡ plain
   pub small : length plain ≤ mostBytes
   pub fits : length plain ≤ room
 
 pub wrote : (file : List ℕ) (words : Sizes) (room : ℕ) (ps : List Placed) (rows : Rows) (plain : List ℕ)
     → writeOf file words room ≡ written ps rows plain → Wrote file words room ps rows plain
-unfolding writeOf after fitting
-wrote file words room ps rows plain e = go (readOf file words) refl e
-  where
-    go : (o : Outcome) → readOf file words ≡ o → after room o ≡ written ps rows plain → Wrote file words room ps rows plain
-    go (Read.refused n place) d h = impossible cc
-    go (Read.accepted qs us) d h =
-        let p : List ℕ = plainOf (tokensOnly qs) in
-        cond-cases (leb (length p) mostBytes) _ _ (written ps rows plain) h
-        (λ s k. cond-cases (leb (length p) room) _ _ (written ps rows plain) k
-        (λ r w.
-        let same : qs ≡ ps = cc in
-        let is : p ≡ plain = cc in
-        record {
-          reads = cc;
-          plain-is = ap (λ l. plainOf (tokensOnly l)) (sym same) ∙ is;
-          small = omega (arith, leb-true (length p) mostBytes s, ap length is);
-          fits = omega (arith, leb-true (length p) room r, ap length is);
-        }) (λ r w. impossible cc)) (λ s k. impossible cc)
+unfolding writeOf plainFits
+wrote file words room ps rows plain e =
+    let (read, reads, h) = then-accepted (readOf file words) _ ((ps, rows), plain) e in
+    let p : List ℕ = plainOf (tokensOnly (read .0)) in
+    let (s, k) = need-accepted (leb (length p) mostBytes) 1 0 _ _ h in
+    let (r, q) = need-accepted (leb (length p) room) 7 6 _ _ k in
+    let both : _≡_ {A = FileRows × List ℕ} (read, p) ((ps, rows), plain) = accepted-same q in
+    let is : p ≡ plain = ap (λ b. b .1) both in
+    record {
+      reads = reads ∙ ap (λ b. accepted (b .0)) both;
+      plain-is = ap (λ b. plainOf (tokensOnly (b .0 .0))) (sym both) ∙ is;
+      small = omega (arith, leb-true (length p) mostBytes s, ap length is);
+      fits = omega (arith, leb-true (length p) room r, ap length is);
+    }
 
 -- the plain form of an accepted file is that of its tokens
-plain-file : (file : List ℕ) (words : Sizes) (ps : List Placed) (rows : Rows) → readOf file words ≡ Read.accepted ps rows
+plain-file : (file : List ℕ) (words : Sizes) (ps : List Placed) (rows : Rows) → readOf file words ≡ accepted (ps, rows)
     → plainOf (tokensOnly ps) ≡ plainOf (fileTokens file)
 plain-file file words ps rows e = ap plainOf (tokens-file file words ps rows e)
 
@@ -71,75 +67,70 @@ counted size r = record {
 }
 
 -- the writer after reading's answer
-module _ (file : List ℕ) (words : Sizes) (r : Reading) (e : r ≡ Answer.answerOf (readOf file words)) where
+module _ (file : List ℕ) (words : Sizes) (r : Reading) (e : r ≡ readAnswer (readOf file words)) where
   pub refuses-reading : (room : ℕ) → (r .refusal ≡ 0 → ⊥) → writeOf file words room ≡ refused (r .refusal) (r .place)
-  unfolding writeOf after
+  unfolding writeOf then
   refuses-reading room f = rw (answer-refused (readOf file words) r e f)
 
   module _ (room : ℕ) (z : r .refusal ≡ 0) where
-    accepts : (ps : List Placed) × (rows : Rows) × (readOf file words ≡ Read.accepted ps rows)
+    accepts : (ps : List Placed) × (rows : Rows) × (readOf file words ≡ accepted (ps, rows))
     accepts = answer-accepted file words r e z
 
-    after-reading : writeOf file words room ≡ fitting room (accepts .0) (accepts .1) (plainOf (fileTokens file))
-    unfolding writeOf after
+    after-reading : writeOf file words room ≡ plainFits room (accepts .0, accepts .1) (plainOf (fileTokens file))
+    unfolding writeOf then
     after-reading = rw (accepts .2, plain-file file words (accepts .0) (accepts .1) (accepts .2))
 
     pub too-long : mostBytes < length (plainOf (fileTokens file)) → writeOf file words room ≡ refused 1 0
-    unfolding fitting
+    unfolding plainFits need
     too-long h = rw (after-reading, lt-leb _ _ h)
 
     pub too-short : length (plainOf (fileTokens file)) ≤ mostBytes → room < length (plainOf (fileTokens file)) → writeOf file words room ≡ refused 7 6
-    unfolding fitting
+    unfolding plainFits need
     too-short h k = rw (after-reading, le-leb _ _ h, lt-leb _ _ k)
 
     pub fits-output : length (plainOf (fileTokens file)) ≤ mostBytes → length (plainOf (fileTokens file)) ≤ room
-        → counted (length (plainOf (fileTokens file))) r ≡ answerOf (writeOf file words room)
-    unfolding fitting answerOf readingOf bytesOf Answer.answerOf
+        → counted (length (plainOf (fileTokens file))) r ≡ writeAnswer (writeOf file words room)
+    unfolding plainFits need writeAnswer readingOf bytesOf readAnswer
     fits-output h k =
         let o : writeOf file words room ≡ written (accepts .0) (accepts .1) (plainOf (fileTokens file))
         = rw (after-reading, le-leb _ _ h, le-leb _ _ k) in
-        ap (counted (length (plainOf (fileTokens file)))) (e ∙ ap Answer.answerOf (accepts .2)) ∙ sym (ap answerOf o)
+        ap (counted (length (plainOf (fileTokens file)))) (e ∙ ap readAnswer (accepts .2)) ∙ sym (ap writeAnswer o)
 
 -- the writer's refusals have numbers other than 0
-write-number : (file : List ℕ) (words : Sizes) (room n place : ℕ) → writeOf file words room ≡ refused n place → n ≡ 0 → ⊥
-unfolding writeOf after fitting
-write-number file words room n place e z = go (readOf file words) refl e
-  where
-    go : (o : Outcome) → readOf file words ≡ o → after room o ≡ refused n place → ⊥
-    go (Read.refused m q) d h = let k : m ≡ n = cc in read-number file words m q d (k ∙ z)
-    go (Read.accepted ps rows) d h =
-        let p : List ℕ = plainOf (tokensOnly ps) in
-        cond-cases (leb (length p) mostBytes) _ _ (refused n place) h
-        (λ s k. cond-cases (leb (length p) room) _ _ (refused n place) k (λ r w. impossible cc) (λ r w. let m : 7 ≡ n = cc in omega arith))
-        (λ s k. let m : 1 ≡ n = cc in omega arith)
+write-number : (file : List ℕ) (words : Sizes) (room : ℕ) → NotZero (writeOf file words room)
+unfolding writeOf plainFits
+write-number file words room n place e z =
+    then-refused (readOf file words) _ n place e (λ h. read-number file words n place h z)
+    (λ read d h. need-refused _ 1 0 _ n place h
+    (λ s k. need-refused _ 7 6 _ n place k (λ r w. impossible cc) (λ r m i. omega arith)) (λ s m i. omega arith))
 
 -- an answer of another number: the outcome is that refusal
-pub writing-refused : (o : Writing) (a : Written) → a ≡ answerOf o → (a .refusal ≡ 0 → ⊥) → o ≡ refused (a .refusal) (a .place)
-unfolding answerOf readingOf bytesOf Answer.answerOf
+pub writing-refused : (o : Writing) (a : Written) → a ≡ writeAnswer o → (a .refusal ≡ 0 → ⊥) → o ≡ refused (a .refusal) (a .place)
+unfolding writeAnswer readingOf bytesOf readAnswer
 writing-refused (refused n place) a e f =
     let k : a .refusal ≡ n = ap (λ t. t .refusal) e in
     let l : a .place ≡ place = ap (λ t. t .place) e in
     cc
-writing-refused (written ps rows plain) a e f = absurd (f (ap (λ t. t .refusal) e))
+writing-refused (accepted (read, plain)) a e f = absurd (f (ap (λ t. t .refusal) e))
 
 -- an answer of refusal 0: the file is written
 pub record Success (file : List ℕ) (words : Sizes) (room : ℕ) (a : Written) : Type 0 where
   pub ps : List Placed
   pub rows : Rows
   pub outcome : writeOf file words room ≡ written ps rows (plainOf (fileTokens file))
-  pub reads : readOf file words ≡ Read.accepted ps rows
+  pub reads : readOf file words ≡ accepted (ps, rows)
   pub count : a .tokens ≡ length ps
   pub size : a .length ≡ length (plainOf (fileTokens file))
   pub fits : a .length ≤ room
 
-pub success : (file : List ℕ) (words : Sizes) (room : ℕ) (a : Written) → a ≡ answerOf (writeOf file words room) → a .refusal ≡ 0
+pub success : (file : List ℕ) (words : Sizes) (room : ℕ) (a : Written) → a ≡ writeAnswer (writeOf file words room) → a .refusal ≡ 0
     → Success file words room a
-unfolding answerOf readingOf bytesOf Answer.answerOf
+unfolding writeAnswer readingOf bytesOf readAnswer
 success file words room a e z = go (writeOf file words room) refl e
   where
-    go : (o : Writing) → writeOf file words room ≡ o → a ≡ answerOf o → Success file words room a
+    go : (o : Writing) → writeOf file words room ≡ o → a ≡ writeAnswer o → Success file words room a
     go (refused n place) d h = absurd (write-number file words room n place d (sym (ap (λ t. t .refusal) h) ∙ z))
-    go (written ps rows plain) d h =
+    go (accepted ((ps, rows), plain)) d h =
         let w : Wrote file words room ps rows plain = wrote file words room ps rows plain d in
         let same : plain ≡ plainOf (fileTokens file) = sym (w .plain-is) ∙ plain-file file words ps rows (w .reads) in
         let long : a .length ≡ length plain = ap (λ t. t .length) h in
@@ -158,7 +149,7 @@ pub zeros : {xs : List ℕ} {m n : ℕ} → m ≡ n → xs ≡ replicate m 0 →
 zeros e z = z ∙ ap (λ n. replicate n 0) e
 
 -- the tables and the output, refused and written
-pub refused-tables : {o : Writing} {n place : ℕ} {words : Sizes} {t : Tables} → o ≡ refused n place → Leaves (Read.refused n place) words t
+pub refused-tables : {o : Writing} {n place : ℕ} {words : Sizes} {t : Tables} → o ≡ refused n place → Leaves (refused n place) words t
     → Leaves (readingOf o) words t
 unfolding readingOf
 refused-tables {words = words} {t = t} e l = subst (λ o. Leaves (readingOf o) words t) (sym e) l

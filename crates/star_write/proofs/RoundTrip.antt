@@ -6,22 +6,21 @@ use Prim.Native.Nat.{ℕ, _*_, _≤_}
 use native.Mathlib.Omega.{arith}
 use borrow.Author.Tests.{le-leb}
 use lib.ListN.{length, length-map}
+use Rattle.star_text.specs.Outcome.{accepted, then, need}
 use Rattle.star_text.specs.Bytes.{mostBytes}
 use Rattle.star_lex.specs.Rules.{today}
 use Rattle.star_lex.specs.Tokens.{Token, Placed}
 use Rattle.star_lex.specs.Split.{tokensOf}
-use Rattle.star_lex.specs.Split as Split
 use Rattle.star_lex.specs.Plain.{plainOf}
 use Rattle.star_lex.proofs.WellFormed.{split-well-formed}
 use Rattle.star_lex.proofs.PlainSplit.{lex-plain}
 use Rattle.star_grammar.specs.Tables.{Rows, rowsOf}
 use Rattle.star_grammar.specs.Reading.{Reading}
 use Rattle.star_read.specs.Read.{Sizes, tokensOnly, readOf}
-use Rattle.star_read.specs.Read as Read
 use Rattle.star_read.specs.Demands.{Room, Fair}
 use Rattle.star_read.proofs.Usable.{today-usable}
 use Rattle.star_read.proofs.Demand3.{accepted-exactly, one-reading, rows-of-reading}
-use Rattle.star_write.specs.Write.{fitting, after, writeOf}
+use Rattle.star_write.specs.Write.{plainFits, writeOf}
 use Rattle.star_write.specs.Demands.{ReadsBack, RoundTrip, WritesAgain}
 use Rattle.star_write.proofs.Outcomes.{Wrote, wrote}
 
@@ -35,11 +34,11 @@ module _ (plain : List ℕ) (words : Sizes) (ps qs : List Placed) (r : Reading (
   unfolding moved
   same-rows e s = ap rowsOf (one-reading today (tokensOnly qs) s (moved (sym e) r))
 
-  read-rows : tokensOnly qs ≡ tokensOnly ps → (rows : Rows) → readOf plain words ≡ Read.accepted qs rows → rows ≡ rowsOf (r .tree)
+  read-rows : tokensOnly qs ≡ tokensOnly ps → (rows : Rows) → readOf plain words ≡ accepted (qs, rows) → rows ≡ rowsOf (r .tree)
   read-rows e rows a = let b = rows-of-reading today today-usable plain words qs rows a in b .2 ∙ same-rows e (b .1)
 
-  reads-same : length plain ≤ mostBytes → tokensOf plain ≡ Split.accepted qs → tokensOnly qs ≡ tokensOnly ps → length ps * 3 ≤ words .tokens
-      → Room words (rowsOf (r .tree)) → readOf plain words ≡ Read.accepted qs (rowsOf (r .tree))
+  reads-same : length plain ≤ mostBytes → tokensOf plain ≡ accepted qs → tokensOnly qs ≡ tokensOnly ps → length ps * 3 ≤ words .tokens
+      → Room words (rowsOf (r .tree)) → readOf plain words ≡ accepted (qs, rowsOf (r .tree))
   reads-same small splits e table rooms =
       let fair : Fair today plain words qs = record {
         tokenized = record {
@@ -50,7 +49,7 @@ module _ (plain : List ℕ) (words : Sizes) (ps qs : List Placed) (r : Reading (
         rooms = λ s. rw (same-rows e s) rooms;
       } in
       let a = accepted-exactly today today-usable plain words qs fair .1 (moved (sym e) r) in
-      a .1 ∙ ap (λ rows. Read.accepted qs rows) (read-rows e (a .0) (a .1))
+      a .1 ∙ ap (λ rows. accepted (qs, rows)) (read-rows e (a .0) (a .1))
 
 pub round-trip : RoundTrip
 round-trip file words room ps rows plain e others table rooms =
@@ -61,12 +60,12 @@ round-trip file words room ps rows plain e others table rooms =
       tokens = l .0;
       accepts =
           reads-same plain others ps (l .0) (r .1) (w .small) (rw (w .plain-is) at (l .1)) (l .2) table (rw (r .2) at rooms)
-          ∙ ap (λ rows. Read.accepted (l .0) rows) (sym (r .2));
+          ∙ ap (λ rows. accepted (l .0, rows)) (sym (r .2));
       same = l .2;
     }
 
 pub writes-again : WritesAgain
-unfolding writeOf after fitting
+unfolding writeOf plainFits then need
 writes-again file words room ps rows plain e others table rooms space fits =
     let w : Wrote file words room ps rows plain = wrote file words room ps rows plain e in
     let b : ReadsBack plain others ps rows = round-trip file words room ps rows plain e others table rooms in

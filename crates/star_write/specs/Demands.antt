@@ -4,21 +4,21 @@ use mathlib.Core.Path.{_≡_}
 use mathlib.Core.List.{List}
 use Prim.Native.Nat.{ℕ, _*_, _≤_}
 use lib.ListN.{length, replicate}
+use Rattle.star_text.specs.Outcome.{accepted}
 use Rattle.star_rows.specs.Widths.{tokenWidth}
 use Rattle.star_lex.specs.Tokens.{Placed}
 use Rattle.star_grammar.specs.Tables.{Rows}
 use Rattle.star_read.specs.Read.{Sizes, tokensOnly, readOf}
-use Rattle.star_read.specs.Read as Read
-use Rattle.star_read.specs.Answer.{Tables, zeroTables, tablesOf}
+use Rattle.star_read.specs.Answer.{Tables, zeroTables, tablesOf, readingOf}
 use Rattle.star_read.specs.Demands.{Room, Numbered, HasReading}
 use Rattle.star_write.specs.Write.{writeOf, written}
-use Rattle.star_write.specs.Answer.{answerOf, readingOf, outputOf}
+use Rattle.star_write.specs.Answer.{writeAnswer, outputOf}
 use Rattle.star_write.specs.declared.Written.{Written}
 
 -- what the plain form is read as: the same kinds and contents, and the same rows of tables 2 to 5
 pub record ReadsBack (plain : List ℕ) (words : Sizes) (ps : List Placed) (rows : Rows) : Type 0 where
   pub tokens : List Placed
-  pub accepts : readOf plain words ≡ Read.accepted tokens rows
+  pub accepts : readOf plain words ≡ accepted (tokens, rows)
   pub same : tokensOnly tokens ≡ tokensOnly ps
 
 abbrev pub RoundTrip : Type 0
@@ -47,5 +47,5 @@ pub data WriteAnswer (file : List ℕ) (words : Sizes) (room : ℕ) : Written �
 
 abbrev pub WriteAnswers : Type 0
 WriteAnswers = (file : List ℕ) (words : Sizes) (room : ℕ)
-    → WriteAnswer file words room (answerOf (writeOf file words room)) (tablesOf (readingOf (writeOf file words room)) words)
+    → WriteAnswer file words room (writeAnswer (writeOf file words room)) (tablesOf (readingOf (writeOf file words room)) words)
     (outputOf (writeOf file words room) room)

@@ -1,30 +1,26 @@
 -- What writing gives: specification 12.4.
-use mathlib.Core.Bool.{cond}
 use mathlib.Core.List.{List}
 use Prim.Native.Nat.{ℕ}
 use lib.Dec.{leb}
 use lib.ListN.{length}
+use Rattle.star_text.specs.Outcome.{Outcome, accepted, then, need}
 use Rattle.star_text.specs.Bytes.{mostBytes}
 use Rattle.star_lex.specs.Tokens.{Placed}
 use Rattle.star_lex.specs.Plain.{plainOf}
 use Rattle.star_grammar.specs.Tables.{Rows}
-use Rattle.star_read.specs.Read.{Outcome, Sizes, tokensOnly, readOf}
-use Rattle.star_read.specs.Read as Read
+use Rattle.star_read.specs.Read.{FileRows, Sizes, tokensOnly, readOf}
 
--- refusal and place; or the tokens and rows of the reading, and the plain form
-pub data Writing : Type 0 where
-  refused : (number place : ℕ) → Writing
-  written : List Placed → Rows → (plain : List ℕ) → Writing
+-- what is written: the tokens and rows of the reading, and the plain form
+abbrev pub Writing : Type 0
+Writing = Outcome (FileRows × List ℕ)
 
--- 1 if the plain form is over 1,048,576 bytes, then 7 with place 6 if the output, of so many bytes, is too short
-unfoldable pub fitting : (room : ℕ) → List Placed → Rows → (plain : List ℕ) → Writing
-fitting room ps rows plain =
-    cond (leb (length plain) mostBytes) (cond (leb (length plain) room) (written ps rows plain) (refused 7 6)) (refused 1 0)
+abbrev pub written : List Placed → Rows → (plain : List ℕ) → Writing
+written ps rows plain = accepted ((ps, rows), plain)
+
+-- 1 if the plain form is over the size limit, then 7 with place 6 if the output, of so many bytes, is too short
+unfoldable pub plainFits : (room : ℕ) → FileRows → (plain : List ℕ) → Writing
+plainFits room read plain = need (leb (length plain) mostBytes) 1 0 (need (leb (length plain) room) 7 6 (accepted (read, plain)))
 
 -- the writer reads first, with reading's refusals
-unfoldable pub after : (room : ℕ) → Outcome → Writing
-after room (Read.refused n place) = refused n place
-after room (Read.accepted ps rows) = fitting room ps rows (plainOf (tokensOnly ps))
-
 unfoldable pub writeOf : List ℕ → Sizes → (room : ℕ) → Writing
-writeOf file words room = after room (readOf file words)
+writeOf file words room = then (readOf file words) (λ read. plainFits room read (plainOf (tokensOnly (read .0))))

@@ -11,9 +11,10 @@ ghost use lib.ListN.{length, replicate};
 ghost use Rattle.star_lex.specs.Plain.{plainOf};
 ghost use Rattle.star_lex.specs.Holds.{Holds, fileTokens};
 ghost use Rattle.star_read.specs.Read.{Sizes, readOf};
-ghost use Rattle.star_read.specs.Answer.{answerOf as Read·answerOf, tables, sizes, Leaves};
-ghost use Rattle.star_write.specs.Write.{refused, writeOf};
-ghost use Rattle.star_write.specs.Answer.{answerOf, readingOf, outputOf};
+ghost use Rattle.star_text.specs.Outcome.{refused};
+ghost use Rattle.star_read.specs.Answer.{readAnswer, tables};
+ghost use Rattle.star_write.specs.Write.{writeOf};
+ghost use Rattle.star_write.specs.Answer.{writeAnswer, Writes};
 
 // What writing answers: refusal and place, both 0 when written, the length of the plain form, and the number of rows of each table.
 #[repr(C)]
@@ -30,7 +31,7 @@ pub struct Written {
 
 // A refusal: length and counts are 0.
 fn refusing(refusal: u32, place: u32) -> Written
-    ensures { λ r. ⌜ r ≡ answerOf (refused refusal place) ⌝ }
+    ensures { λ r. ⌜ r ≡ writeAnswer (refused refusal place) ⌝ }
 {
     Written {
         refusal,
@@ -47,8 +48,8 @@ fn refusing(refusal: u32, place: u32) -> Written
 // What writing answers after reading has answered: refusal 1 if the plain form is too long, then 7 if the output is too short.
 fn answer(file: &[u8], tokens: &[u32], reading: Reading, room: usize) -> Written
     requires { ⌜ (reading .refusal ≡ 0 → Holds (now file) (now tokens) (reading .tokens)) ⌝ }
-    ensures { λ r. ⌜ ((words : Sizes) → reading ≡ Read·answerOf (readOf (now (file .entry)) words)
-        → r ≡ answerOf (writeOf (now (file .entry)) words room)) ⌝ }
+    ensures { λ r. ⌜ ((words : Sizes) → reading ≡ readAnswer (readOf (now (file .entry)) words)
+        → r ≡ writeAnswer (writeOf (now (file .entry)) words room)) ⌝ }
 {
     if reading.refusal != 0 {
         return refusing(reading.refusal, reading.place);
@@ -72,30 +73,6 @@ fn answer(file: &[u8], tokens: &[u32], reading: Reading, room: usize) -> Written
     }
 }
 
-// Sets every word of the tables and every byte of the output to 0.
-fn clear_all(
-    tokens: &mut [u32],
-    sets: &mut [u32],
-    names: &mut [u32],
-    packets: &mut [u32],
-    values: &mut [u32],
-    out: &mut [u8],
-)
-    ensures { λ _. ⌜ now (tokens .exit) ≡ replicate (length (now (tokens .entry))) 0 ⌝ }
-    ensures { λ _. ⌜ now (sets .exit) ≡ replicate (length (now (sets .entry))) 0 ⌝ }
-    ensures { λ _. ⌜ now (names .exit) ≡ replicate (length (now (names .entry))) 0 ⌝ }
-    ensures { λ _. ⌜ now (packets .exit) ≡ replicate (length (now (packets .entry))) 0 ⌝ }
-    ensures { λ _. ⌜ now (values .exit) ≡ replicate (length (now (values .entry))) 0 ⌝ }
-    ensures { λ _. ⌜ now (out .exit) ≡ replicate (length (now (out .entry))) 0 ⌝ }
-{
-    star_rows::clear_from(tokens, 0);
-    star_rows::clear_from(sets, 0);
-    star_rows::clear_from(names, 0);
-    star_rows::clear_from(packets, 0);
-    star_rows::clear_from(values, 0);
-    room::clear_bytes(out, 0);
-}
-
 // Writes the plain form, of that size, of a file whose tokens table 1 holds; bytes past it are 0.
 fn put_plain(file: &[u8], tokens: &[u32], count: usize, size: usize, out: &mut [u8])
     requires { ⌜ Holds (now file) (now tokens) count ⌝ }
@@ -117,22 +94,16 @@ pub fn write(
     values: &mut [u32],
     out: &mut [u8],
 ) -> Written
-    ensures { λ r. ⌜ r ≡ answerOf (writeOf (now (file .entry))
-        (sizes (tables (now (tokens .entry)) (now (sets .entry)) (now (names .entry)) (now (packets .entry)) (now (values .entry))))
-        (length (now (out .entry)))) ⌝ }
-    ensures { λ _. ⌜ Leaves (readingOf (writeOf (now (file .entry))
-        (sizes (tables (now (tokens .entry)) (now (sets .entry)) (now (names .entry)) (now (packets .entry)) (now (values .entry))))
-        (length (now (out .entry)))))
-        (sizes (tables (now (tokens .entry)) (now (sets .entry)) (now (names .entry)) (now (packets .entry)) (now (values .entry))))
-        (tables (now (tokens .exit)) (now (sets .exit)) (now (names .exit)) (now (packets .exit)) (now (values .exit))) ⌝ }
-    ensures { λ _. ⌜ now (out .exit) ≡ outputOf (writeOf (now (file .entry))
-        (sizes (tables (now (tokens .entry)) (now (sets .entry)) (now (names .entry)) (now (packets .entry)) (now (values .entry))))
-        (length (now (out .entry)))) (length (now (out .entry))) ⌝ }
+    ensures { λ r. ⌜ Writes (now (file .entry))
+        (tables (now (tokens .entry)) (now (sets .entry)) (now (names .entry)) (now (packets .entry)) (now (values .entry)))
+        (tables (now (tokens .exit)) (now (sets .exit)) (now (names .exit)) (now (packets .exit)) (now (values .exit)))
+        (now (out .entry)) (now (out .exit)) r ⌝ }
 {
     let reading = star_read::read(file, tokens, sets, names, packets, values);
     let written = answer(file, tokens, reading, out.len());
     if written.refusal != 0 {
-        clear_all(tokens, sets, names, packets, values, out);
+        star_read::clear_tables(tokens, sets, names, packets, values);
+        room::clear_bytes(out, 0);
         return written;
     }
     put_plain(

@@ -9,10 +9,10 @@ use Rattle.star_text.proofs.Classes.{first-refused-is}
 use Rattle.star_rows.specs.Rows.{clearedFrom}
 use Rattle.star_rows.proofs.Stored.{stored-holding}
 use Rattle.star_lex.specs.Tokens.{tokenRow}
-use Rattle.star_lex.specs.Split.{refused}
-use Rattle.star_lex.specs.Found.{fitting, answerOf, tableOf}
+use Rattle.star_text.specs.Outcome.{refused, then}
+use Rattle.star_lex.specs.Found.{tokensFit, splitAnswer, tableOf}
 use Rattle.star_lex.proofs.Splitting.{row-wide}
-use Rattle.star_lex.proofs.Answers.{tokens-too-long, tokens-refused-byte, tokens-split, answer-refused, answer-accepted, fitting-full, fitting-room}
+use Rattle.star_lex.proofs.Answers.{tokens-too-long, tokens-refused-byte, tokens-split, answer-refused, answer-accepted, table-full, table-room}
 use Rattle.star_lex.proofs.read_tokens.Statement.{statement}
 use Rattle.star_lex.proofs.read_tokens.Tie as tie
 
@@ -23,11 +23,14 @@ same-length : tie.Need-same-length
 same-length c = search needs
 
 returns : tie.Need-returns
-unfolding tableOf fitting
+unfolding tableOf then
 returns c =
     let start = c .before .before .before .before .before .before .before in
     let t = tokens-too-long (start .args .file .now) (length (start .args .table .now)) (c .before .before .before .before .if1 .taken) in
-    (c .before .before .refuse .ensures .0 ∙ sym (ap answerOf t), c .before .before .refuse .ensures .1 ∙ sym (ap (λ s. tableOf s (length (start .args .table .now))) t))
+    record {
+      answer = c .before .before .refuse .ensures .0 ∙ sym (ap splitAnswer t);
+      table = c .before .before .refuse .ensures .1 ∙ sym (ap (λ s. tableOf s (length (start .args .table .now))) t);
+    }
 
 class-table-requires : tie.Need-class-table-requires
 class-table-requires c κs = search needs
@@ -54,14 +57,15 @@ same-length-2 : tie.Need-same-length-2
 same-length-2 c = search needs
 
 returns-2 : tie.Need-returns-2
-unfolding tableOf fitting
+unfolding tableOf then
 returns-2 c =
     let at-if1 = c .before .before .before .before .before .before .before .before in
     let start = at-if1 .before .before .before in
-    let t = tokens-refused-byte (start .args .file .now) (length (start .args .table .now)) (at-if1 .if1 .left) (rw (first-bad (c .before .before .before .before .before)) at (c .before .before .before .before .if2 .taken)) in (
-      c .before .before .refuse2 .ensures .0 ∙ ap (λ n. answerOf (refused 2 n)) (first-bad (c .before .before .before .before .before)) ∙ sym (ap answerOf t),
-      c .before .before .refuse2 .ensures .1 ∙ sym (ap (λ s. tableOf s (length (start .args .table .now))) t),
-    )
+    let t = tokens-refused-byte (start .args .file .now) (length (start .args .table .now)) (at-if1 .if1 .left) (rw (first-bad (c .before .before .before .before .before)) at (c .before .before .before .before .if2 .taken)) in
+    record {
+      answer = c .before .before .refuse2 .ensures .0 ∙ ap (λ n. splitAnswer (refused 2 n)) (first-bad (c .before .before .before .before .before)) ∙ sym (ap splitAnswer t);
+      table = c .before .before .refuse2 .ensures .1 ∙ sym (ap (λ s. tableOf s (length (start .args .table .now))) t);
+    }
 
 split-requires : tie.Need-split-requires
 split-requires c κs = search needs
@@ -73,16 +77,17 @@ same-length-3 : tie.Need-same-length-3
 same-length-3 c = search needs
 
 returns-3 : tie.Need-returns-3
-unfolding tableOf fitting
+unfolding tableOf then
 returns-3 c =
     let at-split = c .before .before .before .before .before .before .before .before in
     let at-if2 = at-split .before .before .before in
     let at-if1 = at-if2 .before .before .before .before in
     let start = at-if1 .before .before .before in
-    let t = tokens-split (start .args .file .now) (length (start .args .table .now)) (at-if1 .if1 .left) (rw (first-bad (c .before .before .before .before .before .before .before .before .before .before .before .before)) at (at-if2 .if2 .left)) ∙ ap (fitting (length (start .args .table .now))) (answer-refused _ (at-split .split .result) (at-split .split .ensures .0) (c .before .before .before .before .if3 .taken)) in (
-      c .before .before .refuse3 .ensures .0 ∙ sym (ap answerOf t),
-      c .before .before .refuse3 .ensures .1 ∙ ap (λ n. replicate n 0) (at-split .split .kept .1 .1 .0) ∙ sym (ap (λ s. tableOf s (length (start .args .table .now))) t),
-    )
+    let t = tokens-split (start .args .file .now) (length (start .args .table .now)) (at-if1 .if1 .left) (rw (first-bad (c .before .before .before .before .before .before .before .before .before .before .before .before)) at (at-if2 .if2 .left)) ∙ ap (λ s. then s (tokensFit (length (start .args .table .now)))) (answer-refused _ (at-split .split .result) (at-split .split .ensures .0) (c .before .before .before .before .if3 .taken)) in
+    record {
+      answer = c .before .before .refuse3 .ensures .0 ∙ sym (ap splitAnswer t);
+      table = c .before .before .refuse3 .ensures .1 ∙ ap (λ n. replicate n 0) (at-split .split .kept .1 .1 .0) ∙ sym (ap (λ s. tableOf s (length (start .args .table .now))) t);
+    }
 
 cast-count : tie.Need-cast-count
 cast-count c = search needs
@@ -94,7 +99,7 @@ same-length-4 : tie.Need-same-length-4
 same-length-4 c = search needs
 
 returns-4 : tie.Need-returns-4
-unfolding tableOf fitting
+unfolding tableOf then
 returns-4 c =
     let at-if3 = c .before .before .before .before .before .before in
     let at-split = at-if3 .before .before .before .before in
@@ -103,10 +108,11 @@ returns-4 c =
     let start = at-if1 .before .before .before in
     let (ps, q, r) = answer-accepted (start .args .file .now) (at-split .split .result) (at-split .split .ensures .0) (at-if3 .if3 .left) in
     let k : length (at-split .split .last .1 .1 .0) ≡ (length (start .args .table .now)) = at-split .split .kept .1 .1 .0 in
-    let t = tokens-split (start .args .file .now) (length (start .args .table .now)) (at-if1 .if1 .left) (rw (first-bad (c .before .before .before .before .before .before .before .before .before .before .before .before .before .before)) at (at-if2 .if2 .left)) ∙ ap (fitting (length (start .args .table .now))) q ∙ fitting-full (length (start .args .table .now)) ps (omega (arith, c .before .before .before .before .if4 .taken)) in (
-      c .before .before .refuse4 .ensures .0 ∙ sym (ap answerOf t),
-      c .before .before .refuse4 .ensures .1 ∙ ap (λ n. replicate n 0) k ∙ sym (ap (λ s. tableOf s (length (start .args .table .now))) t),
-    )
+    let t = tokens-split (start .args .file .now) (length (start .args .table .now)) (at-if1 .if1 .left) (rw (first-bad (c .before .before .before .before .before .before .before .before .before .before .before .before .before .before)) at (at-if2 .if2 .left)) ∙ ap (λ s. then s (tokensFit (length (start .args .table .now)))) q ∙ table-full (length (start .args .table .now)) ps (omega (arith, c .before .before .before .before .if4 .taken)) in
+    record {
+      answer = c .before .before .refuse4 .ensures .0 ∙ sym (ap splitAnswer t);
+      table = c .before .before .refuse4 .ensures .1 ∙ ap (λ n. replicate n 0) k ∙ sym (ap (λ s. tableOf s (length (start .args .table .now))) t);
+    }
 
 mul-clear-from : tie.Need-mul-clear-from
 mul-clear-from c = search needs
@@ -118,7 +124,7 @@ same-length-5 : tie.Need-same-length-5
 same-length-5 c = search needs
 
 returns-5 : tie.Need-returns-5
-unfolding tableOf fitting
+unfolding tableOf then
 returns-5 c =
     let at-if4 = c .before .before .before .before in
     let at-if3 = at-if4 .before .before in
@@ -128,14 +134,15 @@ returns-5 c =
     let start = at-if1 .before .before .before in
     let (ps, q, r) = answer-accepted (start .args .file .now) (at-split .split .result) (at-split .split .ensures .0) (at-if3 .if3 .left) in
     let k : length (at-split .split .last .1 .1 .0) ≡ (length (start .args .table .now)) = at-split .split .kept .1 .1 .0 in
-    let t = tokens-split (start .args .file .now) (length (start .args .table .now)) (at-if1 .if1 .left) (rw (first-bad (c .before .before .before .before .before .before .before .before .before .before .before .before .before .before)) at (at-if2 .if2 .left)) ∙ ap (fitting (length (start .args .table .now))) q ∙ fitting-room (length (start .args .table .now)) ps (omega (arith, at-if4 .if4 .left)) in (
-      at-split .split .ensures .0 ∙ ap answerOf q ∙ sym (ap answerOf t),
-      c .before .before .clear-from .ensures
+    let t = tokens-split (start .args .file .now) (length (start .args .table .now)) (at-if1 .if1 .left) (rw (first-bad (c .before .before .before .before .before .before .before .before .before .before .before .before .before .before)) at (at-if2 .if2 .left)) ∙ ap (λ s. then s (tokensFit (length (start .args .table .now)))) q ∙ table-room (length (start .args .table .now)) ps (omega (arith, at-if4 .if4 .left)) in
+    record {
+      answer = at-split .split .ensures .0 ∙ ap splitAnswer q ∙ sym (ap splitAnswer t);
+      table = c .before .before .clear-from .ensures
           ∙ ap (λ n. clearedFrom (n * 3) (at-split .split .last .1 .1 .0)) r
           ∙ ap (clearedFrom (length ps * 3)) (at-split .split .ensures .1 ps q)
           ∙ stored-holding 3 tokenRow row-wide (omega arith) ps (start .args .table .now) (omega (arith, at-if4 .if4 .left))
-          ∙ sym (ap (λ s. tableOf s (length (start .args .table .now))) t),
-    )
+          ∙ sym (ap (λ s. tableOf s (length (start .args .table .now))) t);
+    }
 
 pub read-tokens-spec : {M : Type 1} → statement M
 read-tokens-spec =

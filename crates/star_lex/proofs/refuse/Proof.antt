@@ -2,7 +2,9 @@
 use mathlib.Core.Path.{refl, _∙_}
 use borrow.Author.Needs.{needs}
 use Rattle.star_rows.proofs.Clear.{cleared-whole}
-use Rattle.star_lex.specs.Found.{answerOf}
+use Rattle.star_lex.specs.Found.{splitAnswer}
+use Rattle.star_lex.specs.Split.{placed}
+use Rattle.star_text.specs.Outcome.{refusalOf, placeOf}
 use Rattle.star_lex.proofs.refuse.Statement.{statement}
 use Rattle.star_lex.proofs.refuse.Tie as tie
 
@@ -13,7 +15,7 @@ same-length : tie.Need-same-length
 same-length c = search needs
 
 returns : tie.Need-returns
-unfolding answerOf
+unfolding splitAnswer refusalOf placeOf placed
 returns c = (refl, c .before .before .clear-from .ensures ∙ cleared-whole _)
 
 pub refuse-spec : {M : Type 1} → statement M

@@ -9,7 +9,9 @@ use Rattle.star_text.proofs.Classes.{terminate-is}
 use Rattle.star_rows.specs.Rows.{stored}
 use Rattle.star_rows.proofs.Stored.{length-stored}
 use Rattle.star_lex.specs.Tokens.{tokenRow}
-use Rattle.star_lex.specs.Found.{answerOf}
+use Rattle.star_lex.specs.Found.{splitAnswer}
+use Rattle.star_lex.specs.Split.{placed}
+use Rattle.star_text.specs.Outcome.{refusalOf, placeOf}
 use Rattle.star_lex.specs.declared.Tokens.{Tokens}
 use Rattle.star_lex.proofs.Cases.{impossible}
 use Rattle.star_lex.proofs.Splitting.{Progress, progress-start, turn-gap, turn-token, turn-fault, finished, row-wide}
@@ -127,13 +129,13 @@ abbrev answer : ℕ → Tokens
 answer n = record { refusal = 0; place = 0; count = n }
 
 returns : tie.Need-returns Inv-loop μ-loop
-unfolding answerOf
+unfolding splitAnswer refusalOf placeOf placed
 returns c =
     let at-lexeme = c .before .before .before .before .before in
     let at-loop = at-lexeme .before .before in
     let start = at-loop .before .before .before in
     let f = turn-fault (start .args .file .now) (start .args .table .now) (at-loop .loop .table) (at-loop .loop .at) (at-loop .loop .count) (at-loop .loop .line) (at-loop .loop .inv) (omega arith) (c .before .found3 .given .0 .0) (sym (at-lexeme .lexeme .ensures) ∙ c .before .found3 .given .1) in
-    (sym (ap answerOf f), λ ps e. impossible cc)
+    (sym (ap splitAnswer f), λ ps e. impossible cc)
 
 cast-t24 : tie.Need-cast-t24 Inv-loop μ-loop
 cast-t24 c = omega (arith, c .before .loop .inv .few, c .before .loop .inv .inside, c .before .before .before .before .pre .0)
@@ -142,12 +144,12 @@ same-length-2 : tie.Need-same-length-2 Inv-loop μ-loop
 same-length-2 c = ap length (c .before .loop .inv .rows) ∙ length-stored 3 tokenRow row-wide (omega arith) (c .before .loop .inv .done) (c .before .before .before .before .args .table .now)
 
 returns-2 : tie.Need-returns-2 Inv-loop μ-loop
-unfolding answerOf
+unfolding splitAnswer refusalOf placeOf placed
 returns-2 c =
     let start = c .before .before .before .before in
     let p = c .before .loop .inv in
     let f = finished (start .args .file .now) (start .args .table .now) (c .before .loop .table) (c .before .loop .at) (c .before .loop .count) (c .before .loop .line) (c .before .loop .inv) (omega arith) in (
-      ap (λ n. answer n) (p .counted) ∙ sym (ap answerOf f),
+      ap (λ n. answer n) (p .counted) ∙ sym (ap splitAnswer f),
       λ ps e. let q : p .done ≡ ps = cc in p .rows ∙ ap (λ d. stored 3 tokenRow d (start .args .table .now)) q,
     )
 

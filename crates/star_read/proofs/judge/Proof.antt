@@ -8,7 +8,7 @@ use Rattle.star_lex.specs.Split.{placed, tokensOf}
 use Rattle.star_grammar.specs.Tables.{noRows}
 use Rattle.star_grammar.specs.Machine.{Run, run, start}
 use Rattle.star_lex.specs.Holds.{fileTokens}
-use Rattle.star_read.specs.Read.{Sizes, grammarOf, placeOf}
+use Rattle.star_read.specs.Read.{Sizes, grammarOf, tokenPlace}
 use Rattle.star_read.specs.Answer.{words, Ran}
 use Rattle.star_read.specs.declared.Judged.{Judged}
 use Rattle.star_read.proofs.Judging.{judge-repeat, judge-bad, judge-room, run-number}
@@ -39,7 +39,7 @@ unfolding grammarOf
 returns c =
     let at = entry (c .before .before) in
     let file = at .args .file .now in
-    ap (λ p. judged 9 p) (c .place-of .ensures ∙ ap (placeOf (length file) (placed (tokensOf file))) (at .pre .1 .0))
+    ap (λ p. judged 9 p) (c .place-of .ensures ∙ ap (tokenPlace (length file) (placed (tokensOf file))) (at .pre .1 .0))
     ∙ sym (judge-repeat (sizes at) (length file) (placed (tokensOf file)) _ (at .args .rows) (ran at) (has-run at) (rw (at .pre .1 .0) at (c .before .if1 .taken)))
 
 place-of-requires-2 : tie.Need-place-of-requires-2

@@ -4,15 +4,15 @@ use Prim.Native.Nat.{ℕ}
 use borrow.Author.Needs.{needs}
 use lib.ListN.{length}
 use mathlib.Core.List.{List}
+use Rattle.star_text.specs.Outcome.{accepted, then}
 use Rattle.star_lex.specs.Rules.{today}
 use Rattle.star_lex.specs.Tokens.{Placed}
 use Rattle.star_lex.specs.Split.{placed, tokensOf}
-use Rattle.star_lex.specs.Split as Split
 use Rattle.star_lex.specs.Found.{tokensIn}
 use Rattle.star_unique.specs.Repeat.{nothing, firstRepeat}
 use Rattle.star_lex.specs.Holds.{fileTokens}
-use Rattle.star_read.specs.Read.{Outcome, Sizes, fitting, grammarOf}
-use Rattle.star_read.specs.Answer.{answerOf, words, Leaves, Tables}
+use Rattle.star_read.specs.Read.{ReadOutcome, Sizes, rowsFit, grammarOf}
+use Rattle.star_read.specs.Answer.{readAnswer, words, Leaves, Tables}
 use Rattle.star_unique.proofs.Comparing.{compared-accepted}
 use Rattle.star_lex.proofs.Held.{table-holds}
 use Rattle.star_read.proofs.Starting.{read-refused, read-after}
@@ -20,13 +20,13 @@ use Rattle.star_read.proofs.read.Statement.{statement}
 use Rattle.star_read.proofs.read.Tie as tie
 
 -- tables as an outcome leaves them, at the same outcome and sizes
-leaves-at : {o p : Outcome} → p ≡ o → {m n : ℕ} → m ≡ n → (w : ℕ → Sizes) → {t : Tables} → Leaves o (w m) t → Leaves p (w n) t
+leaves-at : {o p : ReadOutcome} → p ≡ o → {m n : ℕ} → m ≡ n → (w : ℕ → Sizes) → {t : Tables} → Leaves o (w m) t → Leaves p (w n) t
 leaves-at {o} e {n = n} k w {t} l = subst (λ x. Leaves x (w n) t) (sym e) (subst (λ x. Leaves o (w x) t) k l)
 
-leaves-after : (file : List ℕ) (w : ℕ → Sizes) {m n : ℕ} → m ≡ n → {p : Outcome} → p ≡ fitting (w n) (grammarOf today (length file) (placed (tokensOf file)))
-    → {t : Tables} → Leaves (fitting (w m) (grammarOf today (length file) (placed (tokensOf file)))) (w m) t → Leaves p (w n) t
+leaves-after : (file : List ℕ) (w : ℕ → Sizes) {m n : ℕ} → m ≡ n → {p : ReadOutcome} → p ≡ then (grammarOf today (length file) (placed (tokensOf file))) (rowsFit (w n))
+    → {t : Tables} → Leaves (then (grammarOf today (length file) (placed (tokensOf file))) (rowsFit (w m))) (w m) t → Leaves p (w n) t
 leaves-after file w {n = n} k e {t} l =
-    subst (λ x. Leaves x (w n) t) (sym e) (subst (λ x. Leaves (fitting (w x) (grammarOf today (length file) (placed (tokensOf file)))) (w x) t) k l)
+    subst (λ x. Leaves x (w n) t) (sym e) (subst (λ x. Leaves (then (grammarOf today (length file) (placed (tokensOf file))) (rowsFit (w x))) (w x) t) k l)
 
 abbrev entry : tie.After-read-tokens → tie.Start
 entry c = c .before .before .before .before .before .before .before .before
@@ -65,25 +65,28 @@ returns : tie.Need-returns
 returns c =
     let refused = c .before .before .before .before .before .before .before .before .before .before in
     let split = refused .before .before .before .before .before .before .before .before .before .before in
-    let o = read-refused (entry split .args .file .now) (whole split) (split .read-tokens .result) (split .read-tokens .ensures .0) (refused .before .before .before .before .before .before .if1 .taken) in
-    (refused .refuse .ensures .0 ∙ sym (ap answerOf o), leaves-at o (split .read-tokens .kept .1 .0) (sizes split) (refused .refuse .ensures .1))
+    let o = read-refused (entry split .args .file .now) (whole split) (split .read-tokens .result) (split .read-tokens .ensures .answer) (refused .before .before .before .before .before .before .if1 .taken) in
+    record {
+      answer = refused .refuse .ensures .answer ∙ sym (ap readAnswer o);
+      leaves = leaves-at o (split .read-tokens .kept .1 .0) (sizes split) (refused .refuse .ensures .leaves);
+    }
 
 abbrev splits : tie.Else1 → tie.After-read-tokens
 splits c = c .before .before .before .before
 
 -- the tokens
 tokens : (c : tie.Else1)
-    → (ps : List Placed) × (tokensIn (entry (splits c) .args .file .now) (length (entry (splits c) .args .tokens .now)) ≡ Split.accepted ps)
+    → (ps : List Placed) × (tokensIn (entry (splits c) .args .file .now) (length (entry (splits c) .args .tokens .now)) ≡ accepted ps)
     × (splits c .read-tokens .result .count ≡ length ps)
     × (splits c .read-tokens .result .taken ≡ firstRepeat nothing (fileTokens (entry (splits c) .args .file .now)))
-tokens c = compared-accepted _ _ (splits c .read-tokens .result) (splits c .read-tokens .ensures .0) (c .if1 .left)
+tokens c = compared-accepted _ _ (splits c .read-tokens .result) (splits c .read-tokens .ensures .answer) (c .if1 .left)
 
 read-tables-requires : tie.Need-read-tables-requires
 read-tables-requires c κs =
     let else = c .before .before .before .before .before in
     let t = tokens else in
     let split = splits else .read-tokens in
-    (table-holds _ _ (t .0) (t .1) _ _ (t .2) (split .kept .1 .0) (split .ensures .1), t .3)
+    (table-holds _ _ (t .0) (t .1) _ _ (t .2) (split .kept .1 .0) (split .ensures .table), t .3)
 
 same-length-6 : tie.Need-same-length-6
 same-length-6 c = search needs
@@ -107,10 +110,11 @@ returns-2 c =
     let split = splits else in
     let file = entry split .args .file .now in
     let o = read-after file (whole split) (tokens else .0) (tokens else .1) in
-    let l = split .read-tokens .kept .1 .0 in (
-      read .read-tables .ensures .0 ∙ ap (λ n. answerOf (fitting (sizes split n) (grammarOf today (length file) (placed (tokensOf file))))) l ∙ sym (ap answerOf o),
-      leaves-after file (sizes split) l o (read .read-tables .ensures .1),
-    )
+    let l = split .read-tokens .kept .1 .0 in
+    record {
+      answer = read .read-tables .ensures .answer ∙ ap (λ n. readAnswer (then (grammarOf today (length file) (placed (tokensOf file))) (rowsFit (sizes split n)))) l ∙ sym (ap readAnswer o);
+      leaves = leaves-after file (sizes split) l o (read .read-tables .ensures .leaves);
+    }
 
 pub read-spec : {M : Type 1} → statement M
 read-spec =

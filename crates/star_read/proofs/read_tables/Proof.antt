@@ -2,14 +2,15 @@
 use mathlib.Core.Path.{_≡_, sym, _∙_, ap, subst}
 use borrow.Author.Needs.{needs}
 use lib.ListN.{length}
+use Rattle.star_text.specs.Outcome.{accepted, then}
 use Rattle.star_lex.specs.Rules.{today}
 use Rattle.star_lex.specs.Split.{placed, tokensOf}
 use Rattle.star_grammar.specs.Tables.{noRows}
 use Rattle.star_grammar.specs.Machine.{run, start}
 use Rattle.star_parse.specs.Parsed.{FourTables, Answers, tables as four}
 use Rattle.star_lex.specs.Holds.{fileTokens}
-use Rattle.star_read.specs.Read.{accepted, fitting, grammarOf}
-use Rattle.star_read.specs.Answer.{answerOf}
+use Rattle.star_read.specs.Read.{rowsFit, grammarOf}
+use Rattle.star_read.specs.Answer.{readAnswer}
 use Rattle.star_read.proofs.Settling.{SameSizes, sizesOf, held-run, answer-ran, outcome-refused, outcome-settled, rows-accepted, cleared-held, leaves-refused, accepted-answer, accepted-leaves}
 use Rattle.star_read.proofs.read_tables.Statement.{statement}
 use Rattle.star_read.proofs.read_tables.Tie as tie
@@ -82,7 +83,7 @@ returns c =
     let read = rows-read judged in
     let at = entry read in
     let o = outcome-refused (at .args .file .now) (at .args .tokens .now) (at .args .count) (at .pre .0) (old read) (new read) (same read) (read .read-rows .result) (read .read-rows .ensures .0) (judged .judge .result) (judged .judge .ensures) (refused .before .before .before .before .before .before .if1 .taken) in
-    (refused .refuse .ensures .0 ∙ sym (ap answerOf o), leaves-refused (at .args .tokens .now) (old read) (new read) (same read) _ _ _ o (refused .refuse .ensures .1))
+    record { answer = refused .refuse .ensures .answer ∙ sym (ap readAnswer o); leaves = leaves-refused (at .args .tokens .now) (old read) (new read) (same read) _ _ _ o (refused .refuse .ensures .leaves) }
 
 clear-behind-requires : tie.Need-clear-behind-requires
 clear-behind-requires c κs = search needs
@@ -115,10 +116,11 @@ returns-2 c =
     let s = outcome-settled file tokens (at .args .count) (at .pre .0) (old read) (new read) (same read) (rows .result) (rows .ensures .0) (judged .judge .result) (judged .judge .ensures) (cleared .before .before .before .before .before .if1 .left) in
     let a = rows-accepted file tokens (at .args .count) (at .pre .0) (old read) (new read) (same read) (rows .result) (rows .ensures .0) (judged .judge .result) (judged .judge .ensures) (s .rows) (s .is-good) in
     let k = cleared-held (at .args .count) (s .rows) (old read) (new read) _ (rows .result) a (cleared .clear-behind .ensures) (s .room .sets) (s .room .names) (s .room .packets) (s .room .values) in
-    let o : fitting (sizesOf (length tokens) (old read)) (grammarOf today (length file) (placed (tokensOf file))) ≡ accepted (placed (tokensOf file)) (s .rows) = s .outcome in (
-      accepted-answer _ (placed (tokensOf file)) (s .rows) (at .args .count) (old read) (new read) (rows .result) o (at .pre .0 .count-is) a,
-      accepted-leaves _ (placed (tokensOf file)) (s .rows) tokens (old read) _ o (at .pre .0 .rows) k,
-    )
+    let o : then (grammarOf today (length file) (placed (tokensOf file))) (rowsFit (sizesOf (length tokens) (old read))) ≡ accepted (placed (tokensOf file), s .rows) = s .outcome in
+    record {
+      answer = accepted-answer _ (placed (tokensOf file)) (s .rows) (at .args .count) (old read) (new read) (rows .result) o (at .pre .0 .count-is) a;
+      leaves = accepted-leaves _ (placed (tokensOf file)) (s .rows) tokens (old read) _ o (at .pre .0 .rows) k;
+    }
 
 pub read-tables-spec : {M : Type 1} → statement M
 read-tables-spec =

@@ -1,25 +1,12 @@
--- `refuse` meets its contract: each table is cleared from its start.
-use mathlib.Core.Path.{refl, _∙_}
+-- `refuse` meets its contract: the tables are cleared.
+use mathlib.Core.Path.{refl}
 use borrow.Author.Needs.{needs}
-use Rattle.star_rows.proofs.Clear.{cleared-whole}
-use Rattle.star_read.specs.Answer.{answerOf, tablesOf}
+use Rattle.star_read.specs.Answer.{readAnswer}
 use Rattle.star_read.proofs.refuse.Statement.{statement}
 use Rattle.star_read.proofs.refuse.Tie as tie
 
-clear-from-requires : tie.Need-clear-from-requires
-clear-from-requires c κs = search needs
-
-clear-from-requires-2 : tie.Need-clear-from-requires-2
-clear-from-requires-2 c κs = search needs
-
-clear-from-requires-3 : tie.Need-clear-from-requires-3
-clear-from-requires-3 c κs = search needs
-
-clear-from-requires-4 : tie.Need-clear-from-requires-4
-clear-from-requires-4 c κs = search needs
-
-clear-from-requires-5 : tie.Need-clear-from-requires-5
-clear-from-requires-5 c κs = search needs
+clear-tables-requires : tie.Need-clear-tables-requires
+clear-tables-requires c κs = search needs
 
 same-length : tie.Need-same-length
 same-length c = search needs
@@ -37,21 +24,11 @@ same-length-5 : tie.Need-same-length-5
 same-length-5 c = search needs
 
 returns : tie.Need-returns
-unfolding answerOf tablesOf
-returns c = (refl, record { tokens = c .before .before .before .before .before .before .before .before .before .before .before .before .before .before .before .before .before .before .clear-from .ensures ∙ cleared-whole _; sets = c .before .before .before .before .before .before .before .before .before .before .before .before .before .before .clear-from2 .ensures ∙ cleared-whole _; names = c .before .before .before .before .before .before .before .before .before .before .clear-from3 .ensures ∙ cleared-whole _; packets = c .before .before .before .before .before .before .clear-from4 .ensures ∙ cleared-whole _; values = c .before .before .clear-from5 .ensures ∙ cleared-whole _ })
+unfolding readAnswer
+returns c =
+    let cleared = c .before .before .before .before .before .before .before .before .before .before in
+    record { answer = refl; leaves = cleared .clear-tables .ensures _ _ }
 
 pub refuse-spec : {M : Type 1} → statement M
 refuse-spec =
-    tie.close
-    (tie.spec
-    clear-from-requires
-    clear-from-requires-2
-    clear-from-requires-3
-    clear-from-requires-4
-    clear-from-requires-5
-    same-length
-    same-length-2
-    same-length-3
-    same-length-4
-    same-length-5
-    returns)
+    tie.close (tie.spec clear-tables-requires same-length same-length-2 same-length-3 same-length-4 same-length-5 returns)

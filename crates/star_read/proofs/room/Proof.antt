@@ -1,8 +1,9 @@
 -- `room` meets its contract: the tables are tested in their order.
 use mathlib.Core.Path.{sym, _∙_}
 use borrow.Author.Tests.{not-true, not-false}
-use Rattle.star_rows.proofs.Words.{too-small, large-enough}
-use Rattle.star_read.specs.Answer.{roomOf}
+use Rattle.star_text.specs.Outcome.{need, refusalOf, placeOf}
+use Rattle.star_read.specs.Read.{roomFor}
+use Rattle.star_read.specs.Answer.{judgedOf}
 use borrow.Author.Needs.{needs}
 use Rattle.star_read.proofs.room.Statement.{statement}
 use Rattle.star_read.proofs.room.Tie as tie
@@ -11,33 +12,33 @@ fits-requires : tie.Need-fits-requires
 fits-requires c κs = search needs
 
 returns : tie.Need-returns
-unfolding roomOf
-returns c = rw (too-small _ _ _ (sym (c .before .fits2 .ensures) ∙ not-true _ (c .if1 .taken)))
+unfolding roomFor need judgedOf refusalOf placeOf
+returns c = rw ((sym (c .before .fits2 .ensures) ∙ not-true _ (c .if1 .taken)))
 
 fits-requires-2 : tie.Need-fits-requires-2
 fits-requires-2 c κs = search needs
 
 returns-2 : tie.Need-returns-2
-unfolding roomOf
-returns-2 c = rw (large-enough _ _ _ (sym (c .before .before .before .fits2 .ensures) ∙ not-false _ (c .before .before .if1 .left)), too-small _ _ _ (sym (c .before .fits3 .ensures) ∙ not-true _ (c .if2 .taken)))
+unfolding roomFor need judgedOf refusalOf placeOf
+returns-2 c = rw ((sym (c .before .before .before .fits2 .ensures) ∙ not-false _ (c .before .before .if1 .left)), (sym (c .before .fits3 .ensures) ∙ not-true _ (c .if2 .taken)))
 
 fits-requires-3 : tie.Need-fits-requires-3
 fits-requires-3 c κs = search needs
 
 returns-3 : tie.Need-returns-3
-unfolding roomOf
-returns-3 c = rw (large-enough _ _ _ (sym (c .before .before .before .before .before .fits2 .ensures) ∙ not-false _ (c .before .before .before .before .if1 .left)), large-enough _ _ _ (sym (c .before .before .before .fits3 .ensures) ∙ not-false _ (c .before .before .if2 .left)), too-small _ _ _ (sym (c .before .fits4 .ensures) ∙ not-true _ (c .if3 .taken)))
+unfolding roomFor need judgedOf refusalOf placeOf
+returns-3 c = rw ((sym (c .before .before .before .before .before .fits2 .ensures) ∙ not-false _ (c .before .before .before .before .if1 .left)), (sym (c .before .before .before .fits3 .ensures) ∙ not-false _ (c .before .before .if2 .left)), (sym (c .before .fits4 .ensures) ∙ not-true _ (c .if3 .taken)))
 
 fits-requires-4 : tie.Need-fits-requires-4
 fits-requires-4 c κs = search needs
 
 returns-4 : tie.Need-returns-4
-unfolding roomOf
-returns-4 c = rw (large-enough _ _ _ (sym (c .before .before .before .before .before .before .before .fits2 .ensures) ∙ not-false _ (c .before .before .before .before .before .before .if1 .left)), large-enough _ _ _ (sym (c .before .before .before .before .before .fits3 .ensures) ∙ not-false _ (c .before .before .before .before .if2 .left)), large-enough _ _ _ (sym (c .before .before .before .fits4 .ensures) ∙ not-false _ (c .before .before .if3 .left)), too-small _ _ _ (sym (c .before .fits5 .ensures) ∙ not-true _ (c .if4 .taken)))
+unfolding roomFor need judgedOf refusalOf placeOf
+returns-4 c = rw ((sym (c .before .before .before .before .before .before .before .fits2 .ensures) ∙ not-false _ (c .before .before .before .before .before .before .if1 .left)), (sym (c .before .before .before .before .before .fits3 .ensures) ∙ not-false _ (c .before .before .before .before .if2 .left)), (sym (c .before .before .before .fits4 .ensures) ∙ not-false _ (c .before .before .if3 .left)), (sym (c .before .fits5 .ensures) ∙ not-true _ (c .if4 .taken)))
 
 returns-5 : tie.Need-returns-5
-unfolding roomOf
-returns-5 c = rw (large-enough _ _ _ (sym (c .before .before .before .before .before .before .before .fits2 .ensures) ∙ not-false _ (c .before .before .before .before .before .before .if1 .left)), large-enough _ _ _ (sym (c .before .before .before .before .before .fits3 .ensures) ∙ not-false _ (c .before .before .before .before .if2 .left)), large-enough _ _ _ (sym (c .before .before .before .fits4 .ensures) ∙ not-false _ (c .before .before .if3 .left)), large-enough _ _ _ (sym (c .before .fits5 .ensures) ∙ not-false _ (c .if4 .left)))
+unfolding roomFor need judgedOf refusalOf placeOf
+returns-5 c = rw ((sym (c .before .before .before .before .before .before .before .fits2 .ensures) ∙ not-false _ (c .before .before .before .before .before .before .if1 .left)), (sym (c .before .before .before .before .before .fits3 .ensures) ∙ not-false _ (c .before .before .before .before .if2 .left)), (sym (c .before .before .before .fits4 .ensures) ∙ not-false _ (c .before .before .if3 .left)), (sym (c .before .fits5 .ensures) ∙ not-false _ (c .if4 .left)))
 
 pub room-spec : {M : Type 1} → statement M
 room-spec =

@@ -4,7 +4,8 @@ use mathlib.Core.List.{List}
 use Prim.Native.Nat.{ℕ}
 use lib.ListN.{length}
 use Rattle.star_lex.specs.Tokens.{Placed}
-use Rattle.star_lex.specs.Split.{accepted}
+use Rattle.star_text.specs.Outcome.{accepted, refusalOf, placeOf}
+use Rattle.star_lex.specs.Split.{placed}
 use Rattle.star_lex.specs.Found.{tokensIn}
 use Rattle.star_lex.proofs.Answers.{answer-refused, in-accepted}
 use Rattle.star_unique.specs.Repeat.{nothing, firstRepeat}
@@ -22,10 +23,13 @@ same-length : tie.Need-same-length
 same-length c = search needs
 
 returns : tie.Need-returns
-unfolding comparedOf
+unfolding comparedOf refusalOf placeOf placed firstRepeat
 returns c =
     let split = c .before .before .before .before .read-tokens in
-    (sym (ap comparedOf (answer-refused _ (split .result) (split .ensures .0) (c .if1 .taken))), split .ensures .1)
+    record {
+      answer = sym (ap comparedOf (answer-refused _ (split .result) (split .ensures .answer) (c .if1 .taken)));
+      table = split .ensures .table;
+    }
 
 abbrev splits : tie.Else1 → tie.After-read-tokens
 splits c = c .before .before .before .before
@@ -37,7 +41,7 @@ entry c = splits c .before .before .before .before
 tokens : (c : tie.Else1)
     → (ps : List Placed) × (tokensIn (entry c .args .file .now) (length (entry c .args .table .now)) ≡ accepted ps)
     × (splits c .read-tokens .result .count ≡ length ps)
-tokens c = in-accepted _ _ (splits c .read-tokens .result) (splits c .read-tokens .ensures .0) (c .if1 .left)
+tokens c = in-accepted _ _ (splits c .read-tokens .result) (splits c .read-tokens .ensures .answer) (c .if1 .left)
 
 cast-first-repeat : tie.Need-cast-first-repeat
 cast-first-repeat c = search needs
@@ -46,7 +50,7 @@ first-repeat-requires : tie.Need-first-repeat-requires
 first-repeat-requires c κs =
     let split = splits (c .before) .read-tokens in
     let t = tokens (c .before) in
-    table-holds _ _ (t .0) (t .1) _ _ (t .2) (split .kept .1 .0) (split .ensures .1)
+    table-holds _ _ (t .0) (t .1) _ _ (t .2) (split .kept .1 .0) (split .ensures .table)
 
 same-length-2 : tie.Need-same-length-2
 same-length-2 c = search needs
@@ -55,16 +59,17 @@ abbrev compared : ℕ → ℕ → Compared
 compared n taken = record { refusal = 0; place = 0; count = n; taken = taken }
 
 returns-2 : tie.Need-returns-2
-unfolding comparedOf
+unfolding comparedOf refusalOf placeOf placed
 returns-2 c =
     let else = c .before .before .before .before in
     let t = tokens else in
-    let first = c .before .before .first-repeat in (
-      ap (λ n. compared n (first .result)) (t .2)
+    let first = c .before .before .first-repeat in
+    record {
+      answer = ap (λ n. compared n (first .result)) (t .2)
           ∙ ap (λ n. compared (length (t .0)) n) (first .ensures .0 ∙ ap (firstRepeat nothing) (accepted-tokens _ _ (t .0) (t .1)))
-          ∙ sym (ap comparedOf (t .1)),
-      first .ensures .1 ∙ splits else .read-tokens .ensures .1,
-    )
+          ∙ sym (ap comparedOf (t .1));
+      table = first .ensures .1 ∙ splits else .read-tokens .ensures .table;
+    }
 
 pub read-tokens-spec : {M : Type 1} → statement M
 read-tokens-spec =

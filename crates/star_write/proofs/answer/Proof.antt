@@ -2,7 +2,7 @@
 use mathlib.Core.Path.{_∙_, sym, ap}
 use native.Mathlib.Omega.{arith}
 use borrow.Author.Needs.{needs}
-use Rattle.star_write.specs.Answer.{answerOf}
+use Rattle.star_write.specs.Answer.{writeAnswer}
 use Rattle.star_write.proofs.Outcomes.{counted, refuses-reading, too-long, too-short, fits-output}
 use Rattle.star_write.proofs.answer.Statement.{statement}
 use Rattle.star_write.proofs.answer.Tie as tie
@@ -16,7 +16,7 @@ refusing-requires c κs = search needs
 returns : tie.Need-returns
 returns c =
     let start = c .before .before .before .before .before in
-    λ words e. c .refusing .ensures ∙ sym (ap answerOf (refuses-reading _ words _ e (start .args .room) (c .before .if1 .taken)))
+    λ words e. c .refusing .ensures ∙ sym (ap writeAnswer (refuses-reading _ words _ e (start .args .room) (c .before .if1 .taken)))
 
 cast-plain-length : tie.Need-cast-plain-length
 cast-plain-length c = search needs
@@ -32,7 +32,7 @@ returns-2 c =
     let sized = c .before .before in
     λ words e.
     c .refusing2 .ensures
-    ∙ sym (ap answerOf (too-long _ words _ e (entry sized .args .room) (sized .before .before .if1 .left) (omega (arith, sized .plain-length .ensures))))
+    ∙ sym (ap writeAnswer (too-long _ words _ e (entry sized .args .room) (sized .before .before .if1 .left) (omega (arith, sized .plain-length .ensures))))
 
 refusing-requires-3 : tie.Need-refusing-requires-3
 refusing-requires-3 c κs = search needs
@@ -43,7 +43,7 @@ returns-3 c =
     let size = sized .plain-length .ensures in
     λ words e.
     c .refusing3 .ensures
-    ∙ sym (ap answerOf (too-short _ words _ e (entry sized .args .room) (sized .before .before .if1 .left) (omega (arith, size)) (omega (arith, size))))
+    ∙ sym (ap writeAnswer (too-short _ words _ e (entry sized .args .room) (sized .before .before .if1 .left) (omega (arith, size)) (omega (arith, size))))
 
 cast-t8 : tie.Need-cast-t8
 cast-t8 c = search needs

@@ -3,10 +3,12 @@
 use mathlib.Core.Path.{_≡_, _∙_}
 use borrow.Author.Needs.{needs}
 use lib.ListN.{length}
+use Rattle.star_text.specs.Outcome.{refused}
+use Rattle.star_rows.proofs.Clear.{cleared-whole}
 use Rattle.star_read.specs.Read.{Sizes}
 use Rattle.star_read.specs.Answer.{tables, sizes, tablesOf}
-use Rattle.star_write.specs.Write.{Writing, refused, writeOf}
-use Rattle.star_write.specs.Answer.{answerOf}
+use Rattle.star_write.specs.Write.{Writing, writeOf}
+use Rattle.star_write.specs.Answer.{writeAnswer}
 use Rattle.star_read.proofs.Accepted.{read-holds, left-holds}
 use Rattle.star_write.proofs.Outcomes.{writing-refused, Success, success, zeros, refused-tables, refused-output, written-tables, written-output}
 use Rattle.star_write.proofs.write.Statement.{statement}
@@ -25,11 +27,14 @@ read c = reading (c .before)
 abbrev start : tie.After-answer → tie.Start
 start c = entry (read c)
 
-abbrev cleared : tie.After-slice-known17 → tie.After-clear-all
+abbrev emptied : tie.After-slice-known17 → tie.After-clear-bytes
+emptied c = c .before .before
+
+abbrev cleared : tie.After-clear-bytes → tie.After-clear-tables
 cleared c = c .before .before .before .before .before .before .before .before .before .before .before .before
 
-abbrev refusing : tie.After-slice-known17 → tie.Then1
-refusing c = cleared c .before .before .before .before .before .before .before
+abbrev refusing : tie.After-clear-tables → tie.Then1
+refusing c = c .before .before .before .before .before .before
 
 abbrev writing : tie.After-put-plain-arg2 → tie.Else1
 writing c = c .before .before .before .before
@@ -45,8 +50,8 @@ abbrev outcome : tie.Start → Writing
 outcome c = writeOf (c .args .file .now) (words c) (length (c .args .out .now))
 
 -- the answer is the outcome's: a refusal, or else the file is written
-answered : (c : tie.After-answer) → c .answer .result ≡ answerOf (outcome (start c))
-answered c = c .answer .ensures (words (start c)) (read c .read .ensures .0)
+answered : (c : tie.After-answer) → c .answer .result ≡ writeAnswer (outcome (start c))
+answered c = c .answer .ensures (words (start c)) (read c .read .ensures .answer)
 
 refuses : (c : tie.Then1)
     → outcome (start (c .before .before)) ≡ refused (c .before .before .answer .result .refusal) (c .before .before .answer .result .place)
@@ -60,46 +65,60 @@ read-requires : tie.Need-read-requires
 read-requires c κs = tt
 
 answer-requires : tie.Need-answer-requires
-answer-requires c κs = read-holds _ (words (entry (reading c))) _ (reading c .read .ensures .0) _ (reading c .read .ensures .1)
+answer-requires c κs = read-holds _ (words (entry (reading c))) _ (reading c .read .ensures .answer) _ (reading c .read .ensures .leaves)
 
-clear-all-requires : tie.Need-clear-all-requires
-clear-all-requires c κs = tt
+clear-tables-requires : tie.Need-clear-tables-requires
+clear-tables-requires c κs = tt
+
+clear-bytes-requires : tie.Need-clear-bytes-requires
+clear-bytes-requires c κs = tt
 
 same-length : tie.Need-same-length
-same-length c = cleared c .clear-all .kept .0 ∙ read (refusing c .before .before) .read .kept .1 .0
+same-length c =
+    let cleared = cleared (emptied c) in
+    cleared .clear-tables .kept .0 ∙ read (refusing cleared .before .before) .read .kept .1 .0
 
 same-length-2 : tie.Need-same-length-2
-same-length-2 c = cleared c .clear-all .kept .1 .0 ∙ read (refusing c .before .before) .read .kept .1 .1 .0
+same-length-2 c =
+    let cleared = cleared (emptied c) in
+    cleared .clear-tables .kept .1 .0 ∙ read (refusing cleared .before .before) .read .kept .1 .1 .0
 
 same-length-3 : tie.Need-same-length-3
-same-length-3 c = cleared c .clear-all .kept .1 .1 .0 ∙ read (refusing c .before .before) .read .kept .1 .1 .1 .0
+same-length-3 c =
+    let cleared = cleared (emptied c) in
+    cleared .clear-tables .kept .1 .1 .0 ∙ read (refusing cleared .before .before) .read .kept .1 .1 .1 .0
 
 same-length-4 : tie.Need-same-length-4
-same-length-4 c = cleared c .clear-all .kept .1 .1 .1 .0 ∙ read (refusing c .before .before) .read .kept .1 .1 .1 .1 .0
+same-length-4 c =
+    let cleared = cleared (emptied c) in
+    cleared .clear-tables .kept .1 .1 .1 .0 ∙ read (refusing cleared .before .before) .read .kept .1 .1 .1 .1 .0
 
 same-length-5 : tie.Need-same-length-5
-same-length-5 c = cleared c .clear-all .kept .1 .1 .1 .1 .0 ∙ read (refusing c .before .before) .read .kept .1 .1 .1 .1 .1 .0
+same-length-5 c =
+    let cleared = cleared (emptied c) in
+    cleared .clear-tables .kept .1 .1 .1 .1 .0 ∙ read (refusing cleared .before .before) .read .kept .1 .1 .1 .1 .1 .0
 
 same-length-6 : tie.Need-same-length-6
-same-length-6 c = cleared c .clear-all .kept .1 .1 .1 .1 .1 .0
+same-length-6 c = emptied c .clear-bytes .kept .0
 
 returns : tie.Need-returns
 unfolding tablesOf
 returns c =
-    let kept = read (refusing c .before .before) .read .kept in
-    let zero = cleared c .clear-all .ensures in (
-      answered (refusing c .before .before),
-      (
-        refused-tables (refuses (refusing c)) (record {
-          tokens = zeros (kept .1 .0) (zero .0);
-          sets = zeros (kept .1 .1 .0) (zero .1 .0);
-          names = zeros (kept .1 .1 .1 .0) (zero .1 .1 .0);
-          packets = zeros (kept .1 .1 .1 .1 .0) (zero .1 .1 .1 .0);
-          values = zeros (kept .1 .1 .1 .1 .1 .0) (zero .1 .1 .1 .1 .0);
-        }),
-        refused-output _ (refuses (refusing c)) (zero .1 .1 .1 .1 .1),
-      ),
-    )
+    let cleared = cleared (emptied c) in
+    let then = refusing cleared in
+    let kept = read (then .before .before) .read .kept in
+    let zero = cleared .clear-tables .ensures 0 0 in
+    record {
+      answer = answered (then .before .before);
+      leaves = refused-tables (refuses then) (record {
+        tokens = zeros (kept .1 .0) (zero .tokens);
+        sets = zeros (kept .1 .1 .0) (zero .sets);
+        names = zeros (kept .1 .1 .1 .0) (zero .names);
+        packets = zeros (kept .1 .1 .1 .1 .0) (zero .packets);
+        values = zeros (kept .1 .1 .1 .1 .1 .0) (zero .values);
+      });
+      output = refused-output _ (refuses then) (emptied c .clear-bytes .ensures ∙ cleared-whole _);
+    }
 
 cast-put-plain : tie.Need-cast-put-plain
 cast-put-plain c = search needs
@@ -110,7 +129,7 @@ cast-put-plain-2 c = search needs
 put-plain-requires : tie.Need-put-plain-requires
 put-plain-requires c κs =
     let w = writes (writing c) in
-    (left-holds _ _ (w .ps) (w .rows) (w .reads) _ _ (read (writing c .before .before) .read .ensures .1) (w .count), (w .size, w .fits))
+    (left-holds _ _ (w .ps) (w .rows) (w .reads) _ _ (read (writing c .before .before) .read .ensures .leaves) (w .count), (w .size, w .fits))
 
 same-length-7 : tie.Need-same-length-7
 same-length-7 c = read (writing (put c .before) .before .before) .read .kept .1 .0
@@ -132,10 +151,12 @@ same-length-12 c = put c .put-plain .kept .1 .1 .1 .1 .0
 
 returns-2 : tie.Need-returns-2
 returns-2 c =
-    let w = writing (put c .before) in (
-      answered (w .before .before),
-      (written-tables (writes w) (read (w .before .before) .read .ensures .1), written-output (writes w) (put c .put-plain .ensures)),
-    )
+    let w = writing (put c .before) in
+    record {
+      answer = answered (w .before .before);
+      leaves = written-tables (writes w) (read (w .before .before) .read .ensures .leaves);
+      output = written-output (writes w) (put c .put-plain .ensures);
+    }
 
 pub write-spec : {M : Type 1} → statement M
 write-spec =
@@ -143,7 +164,8 @@ write-spec =
     (tie.spec
     read-requires
     answer-requires
-    clear-all-requires
+    clear-tables-requires
+    clear-bytes-requires
     same-length
     same-length-2
     same-length-3

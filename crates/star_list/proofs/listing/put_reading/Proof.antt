@@ -49,7 +49,7 @@ same-length-6 c = search needs
 returns : tie.Need-returns
 returns c =
     let taken = c .before .before .before .before in
-    rw (text-refused _ (words (start (refusing taken))) _ (refusing taken .read .ensures .0) (taken .if1 .taken)) (c .before .before .put-refused .ensures)
+    rw (text-refused _ (words (start (refusing taken))) _ (refusing taken .read .ensures .answer) (taken .if1 .taken)) (c .before .before .put-refused .ensures)
 
 cast-put-codes : tie.Need-cast-put-codes
 cast-put-codes c = search needs
@@ -57,7 +57,7 @@ cast-put-codes c = search needs
 put-codes-requires : tie.Need-put-codes-requires
 put-codes-requires c κs =
     let left = c .before .before .before in
-    read-holds _ (words (start (accepting left))) _ (accepting left .read .ensures .0) _ (accepting left .read .ensures .1) (left .if1 .left)
+    read-holds _ (words (start (accepting left))) _ (accepting left .read .ensures .answer) _ (accepting left .read .ensures .leaves) (left .if1 .left)
 
 put-counts-requires : tie.Need-put-counts-requires
 put-counts-requires c κs = search needs
@@ -83,7 +83,7 @@ same-length-12 c = search needs
 returns-2 : tie.Need-returns-2
 returns-2 c =
     let left = c .before .before .before .before .before .before .before .before .before .before in
-    rw (text-accepted _ (words (start (accepting left))) _ (accepting left .read .ensures .0) (left .if1 .left))
+    rw (text-accepted _ (words (start (accepting left))) _ (accepting left .read .ensures .answer) (left .if1 .left))
     (put-then (c .before .before .before .before .before .before .put-codes .ensures .0) (c .before .before .put-counts .ensures))
 
 pub put-reading-spec : {M : Type 1} → statement M

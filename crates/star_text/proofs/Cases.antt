@@ -1,0 +1,13 @@
+-- Cases of a computed choice, each with the equation that it leaves: by matching on what is tested.
+use mathlib.Core.Path.{_≡_, refl}
+use mathlib.Core.Bool.{Bool, true, false, cond}
+use Prim.Native.Nat.{ℕ}
+use native.Mathlib.Omega.{arith}
+
+-- for what `cc` refutes: `impossible cc`
+pub impossible {ℓ} : {P : Type ℓ} → _≡_ {A = ℕ} 0 1 → P
+impossible z = absurd (omega arith)
+
+pub cond-cases {ℓ κ} : {A : Type ℓ} {P : Type κ} (t : Bool) (x y z : A) → cond t x y ≡ z → (t ≡ true → x ≡ z → P) → (t ≡ false → y ≡ z → P) → P
+cond-cases true x y z e f g = f refl e
+cond-cases false x y z e f g = g refl e
