@@ -8,7 +8,7 @@ use Rattle.star_lex.specs.Rules.{Rules}
 use Rattle.star_lex.specs.Tokens.{Token, Each}
 use Rattle.star_grammar.specs.Tree.{IsValue, IsName, innerYield, InnerWhole, File, fileYield, FileBy, frameEnd, stop}
 use Rattle.star_grammar.specs.Tables.{Rows, noRows, rowsOf}
-use Rattle.star_grammar.specs.Machine.{sortOf, Where, inBlock, inFrame, Level, State, start, within, named, header, body, Step, go, refuse, step, run, walk}
+use Rattle.star_grammar.specs.Machine.{Where, inBlock, inFrame, Level, State, start, within, named, header, body, Step, go, refuse, stepAt, run, walk}
 use Rattle.star_grammar.specs.Rest.{Fixed, InSet, Stopped, Filling, Levels, Heading, Blocks, Rest, SaneHeader, Sane, zeroWord, setEnding, packetEnding, onePacket, countsOf, ending, completion}
 use Rattle.star_grammar.proofs.Sorts.{onward, run-onward}
 use Rattle.star_grammar.proofs.Sane.{sane-kept}
@@ -22,11 +22,11 @@ walkOn rules ts (go s r) = walk rules s ts r
 walkOn rules ts (refuse n) = refuse n
 
 pub walk-on : (rules : Rules) (st : State) (t : Token) (ts : List Token) (r : Rows)
-    → walk rules st (t ∷ ts) r ≡ walkOn rules ts (step rules st (sortOf (t .kind)) r)
+    → walk rules st (t ∷ ts) r ≡ walkOn rules ts (stepAt rules st (t .kind) r)
 unfolding walk
-walk-on rules st t ts r = at (step rules st (sortOf (t .kind)) r) refl
+walk-on rules st t ts r = at (stepAt rules st (t .kind) r) refl
   where
-    at : (x : Step) → step rules st (sortOf (t .kind)) r ≡ x → walk rules st (t ∷ ts) r ≡ walkOn rules ts x
+    at : (x : Step) → stepAt rules st (t .kind) r ≡ x → walk rules st (t ∷ ts) r ≡ walkOn rules ts x
     at (go s r′) e = rw (e, walk)
     at (refuse n) e = rw (e, walk)
 
@@ -36,15 +36,15 @@ refuse-go n s r e = let z : _≡_ {A = ℕ} 0 1 = cc in omega arith
 -- a property of states that goes back over each step of a walk
 pub walk-induction : (rules : Rules) (P : State → List Token → Rows → Type 0) (st′ : State) (r′ : Rows)
     → P st′ [] r′
-    → ((st s : State) (t : Token) (p : List Token) (r r″ : Rows) → step rules st (sortOf (t .kind)) r ≡ go s r″ → P s p r″ → P st (t ∷ p) r)
+    → ((st s : State) (t : Token) (p : List Token) (r r″ : Rows) → stepAt rules st (t .kind) r ≡ go s r″ → P s p r″ → P st (t ∷ p) r)
     → (p : List Token) (st : State) (r : Rows) → walk rules st p r ≡ go st′ r′ → P st p r
 unfolding walk
 walk-induction rules P st′ r′ base back [] st r e =
     subst₂ (λ (s : State) (u : Rows). P s [] u) (let q : st′ ≡ st = cc in q) (let q : r′ ≡ r = cc in q) base
 walk-induction rules P st′ r′ base back (t ∷ p) st r e =
-    at (walk-induction rules P st′ r′ base back p) (step rules st (sortOf (t .kind)) r) refl
+    at (walk-induction rules P st′ r′ base back p) (stepAt rules st (t .kind) r) refl
   where
-    at : ((s : State) (u : Rows) → walk rules s p u ≡ go st′ r′ → P s p u) → (x : Step) → step rules st (sortOf (t .kind)) r ≡ x → P st (t ∷ p) r
+    at : ((s : State) (u : Rows) → walk rules s p u ≡ go st′ r′ → P s p u) → (x : Step) → stepAt rules st (t .kind) r ≡ x → P st (t ∷ p) r
     at later (go s u) q = back st s t p r u q (later s u (ap (walkOn rules p) (sym q) ∙ sym (walk-on rules st t p r) ∙ e))
     at later (refuse n) q = absurd (refuse-go n st′ r′ (ap (walkOn rules p) (sym q) ∙ sym (walk-on rules st t p r) ∙ e))
 
@@ -67,7 +67,7 @@ pub walk-sane : (rules : Rules) → 1 ≤ rules .levels → (st st′ : State) (
     → Sane rules st′
 walk-sane rules least st st′ p r r′ h e =
     walk-induction rules (λ s q u. Sane rules s → Sane rules st′) st′ r′ (λ h′. h′)
-    (λ s s′ t q u u′ g later h′. later (sane-kept rules least s s′ (sortOf (t .kind)) u u′ h′ g)) p st r e h
+    (λ s s′ t q u u′ g later h′. later (sane-kept rules least s s′ (t .kind) u u′ h′ g)) p st r e h
 
 -- what may still come after a walk may come, with its tokens, before it
 pub walk-back : (rules : Rules) → 1 ≤ rules .levels → (st st′ : State) (p ts : List Token) (r r′ : Rows) → Each Fixed p → Sane rules st
@@ -75,7 +75,7 @@ pub walk-back : (rules : Rules) → 1 ≤ rules .levels → (st st′ : State) (
 walk-back rules least st st′ p ts r r′ f h e c =
     walk-induction rules (λ s q u. Each Fixed q → Sane rules s → Rest rules s (q ++ ts)) st′ r′ (λ f′ h′. c)
     (λ s s′ t q u u′ g later f′ h′. step-back rules t (q ++ ts) (f′ .0) s s′ u u′ h′ g
-    (later (f′ .1) (sane-kept rules least s s′ (sortOf (t .kind)) u u′ h′ g))) p st r e f h
+    (later (f′ .1) (sane-kept rules least s s′ (t .kind) u u′ h′ g))) p st r e f h
 
 -- the tokens that end a file are the word 0, `stop_` and `save_`
 module _ (P : Token → Type 0) (pz : P zeroWord) (ps : P stop) (pe : P frameEnd) where
@@ -202,7 +202,7 @@ rest-alive rules least p f st r e x n =
 
 -- a token that a step refuses after a walk from the start continues no whole file
 pub dead : (rules : Rules) (p : List Token) (st : State) (r : Rows) → walk rules start p noRows ≡ go st r → (t : Token) (n : ℕ)
-    → step rules st (sortOf (t .kind)) r ≡ refuse n → (f : File) → FileBy rules f → (ts : List Token) → fileYield f ≡ p ++ (t ∷ ts) → ⊥
+    → stepAt rules st (t .kind) r ≡ refuse n → (f : File) → FileBy rules f → (ts : List Token) → fileYield f ≡ p ++ (t ∷ ts) → ⊥
 dead rules p st r e t n q f w ts y =
     bad-good n (r .tokens) (rowsOf f)
     (ap (onward rules ts r) (sym q) ∙ sym (run-onward rules st t ts r) ∙ sym (walk-run rules start st p (t ∷ ts) noRows r e)

@@ -15,7 +15,7 @@ use Rattle.star_grammar.specs.Tree.{IsValue, IsName, Inner, Packet, inne
 use Rattle.star_grammar.specs.Tables.{Rows, noRows, pass, openLoop, putSet, putName, putPacket, putValue, fold, next, putValues, putInner, putPacketTree, putNames, putDeeper, putStops, putLoop, putEntry, putFrame, putMember, putBlock, rowsOf}
 use Rattle.star_grammar.specs.Machine.{Sort, sortOf, Where, inBlock, inFrame, setOf, Level, parentOf, start, within, named, header, body, go, between, filled, fill, valueAt, begin, headerStep, noValue, noValueAt, bodyStep, startStep, namedStep, step, good, endBetween, endBody, endRun, run}
 use Rattle.star_grammar.proofs.Counts.{Counts, map-counts}
-use Rattle.star_grammar.proofs.Sorts.{sort-block, sort-frame, sort-name, sort-value, sort-frame-end, sort-loop, sort-stop, run-sort, run-go, run-alike}
+use Rattle.star_grammar.proofs.Sorts.{OfSort, sort-block, sort-frame, sort-name, sort-value, sort-frame-end, sort-loop, sort-stop, run-sort, run-go, run-alike}
 
 -- a level of so many names, the first of this row
 abbrev pub level : (names first packet : ℕ) → Level
@@ -26,7 +26,6 @@ any-packet-step : (rules : Rules) (w : Where) (outer : List Level) (n first k k�
     → step rules (body w outer (level n first k) ls 0) s r ≡ step rules (body w outer (level n first k′) ls 0) s r
 unfolding step bodyStep noValueAt noValue valueAt
 any-packet-step rules w outer n first k k′ ls Sort.value r = refl
-any-packet-step rules w outer n first k k′ ls Sort.global r = refl
 any-packet-step rules w [] n first k k′ ls Sort.block r = refl
 any-packet-step rules w [] n first k k′ ls Sort.frame r = refl
 any-packet-step rules w [] n first k k′ ls Sort.frameEnd r = refl
@@ -46,7 +45,7 @@ unfolding run endRun endBody
 any-packet rules w outer n first k k′ ls [] r = refl
 any-packet rules w outer n first k k′ ls (t ∷ ts) r =
     run-alike rules (body w outer (level n first k) ls 0) (body w outer (level n first k′) ls 0) t ts r
-    (any-packet-step rules w outer n first k k′ ls (sortOf (t .kind)) r)
+    (λ _. any-packet-step rules w outer n first k k′ ls (sortOf (t .kind)) r)
 
 -- the rest of a packet's values
 pub fill-values : (rules : Rules) (w : Where) (outer : List Level) (n first k : ℕ) (ls : List ℕ) (f : ℕ) (vs rest : List Token) (r : Rows)
@@ -221,7 +220,7 @@ pub begin-values : (rules : Rules) (w : Where) (first : ℕ) (before : List ℕ)
 begin-values rules w first before n s m ls [] rest r h e l a = absurd (omega (arith, l))
 begin-values rules w first before n s m ls (v ∷ vs) rest r h e l a =
     run-alike rules (header w first before n s) (body w [] (level m first 0) ls 0) v (vs ++ rest) r
-    (rw (sort-value v (a .0)) (step-begin rules w first before n s m ls r h e))
+    (λ _. rw (sort-value v (a .0) .sort) (step-begin rules w first before n s m ls r h e))
 
 begin-packets : (rules : Rules) (w : Where) (first : ℕ) (before : List ℕ) (n s m : ℕ) (ls : List ℕ) (ps : List (Packet ls)) (rest : List Token) (r : Rows)
     → 1 ≤ n → reverseAux before (n ∷ []) ≡ m ∷ ls → 1 ≤ m → 1 ≤ length ps → Each (PacketWhole m ls) ps
@@ -239,15 +238,15 @@ begin-packets rules w first before n s m ls (p ∷ ps) rest r h e hm l a =
 -- what comes next is no value
 abbrev pub NoValue : List Token → Type 0
 NoValue [] = Unit {0}
-NoValue (t ∷ ts) = sortOf (t .kind) ≡ Sort.value → ⊥
+NoValue (t ∷ ts) = OfSort (t .kind) Sort.value → ⊥
 
-pub not-value : (s k : Sort) → s ≡ k → (k ≡ Sort.value → ⊥) → s ≡ Sort.value → ⊥
-not-value s k e h q = h (cc)
+pub not-value : (kind : ℕ) (k : Sort) → OfSort kind k → (k ≡ Sort.value → ⊥) → OfSort kind Sort.value → ⊥
+not-value kind k s h q = h (sym (s .sort) ∙ q .sort)
 
 -- after a loop's packets, where no value comes: as between the entries of the set
 after-loop-step : (rules : Rules) (w : Where) (l : Level) (ls : List ℕ) (s : Sort) (r : Rows) → (s ≡ Sort.value → ⊥)
     → step rules (body w [] l ls 0) s r ≡ step rules (within w) s r
-unfolding step bodyStep noValueAt noValue between
+unfolding step bodyStep noValueAt noValue
 after-loop-step rules w l ls Sort.block r h = refl
 after-loop-step rules w l ls Sort.frame r h = refl
 after-loop-step rules w l ls Sort.frameEnd r h = refl
@@ -255,15 +254,13 @@ after-loop-step rules w l ls Sort.loop r h = refl
 after-loop-step rules w l ls Sort.stop r h = refl
 after-loop-step rules w l ls Sort.name r h = refl
 after-loop-step rules w l ls Sort.value r h = absurd (h refl)
-after-loop-step rules (inBlock b) l ls Sort.global r h = refl
-after-loop-step rules (inFrame b s) l ls Sort.global r h = refl
 
 pub after-loop : (rules : Rules) (w : Where) (l : Level) (ls : List ℕ) (ts : List Token) (r : Rows) → NoValue ts
     → run rules (body w [] l ls 0) ts r ≡ run rules (within w) ts r
 unfolding run endRun endBody
 after-loop rules w l ls [] r h = refl
 after-loop rules w l ls (t ∷ ts) r h =
-    run-alike rules (body w [] l ls 0) (within w) t ts r (after-loop-step rules w l ls (sortOf (t .kind)) r h)
+    run-alike rules (body w [] l ls 0) (within w) t ts r (λ o. after-loop-step rules w l ls (sortOf (t .kind)) r (λ e. h (record { no-global = o; sort = e })))
 
 pub step-loop : (rules : Rules) (w : Where) (r : Rows)
     → step rules (within w) Sort.loop r ≡ go (header w (next (r .names)) [] 0 0) (openLoop r)
@@ -421,7 +418,7 @@ unfolding flatMap blockYield run endRun step startStep between
 file-run rules [] r h = refl
 file-run rules (b ∷ f) r h =
     run-alike rules start (within (inBlock 0)) (b .heading) (flatMap memberYield (b .members) ++ fileYield f) r
-    (rw (sort-block (b .heading) (h .0 .heading)))
+    (λ _. rw (sort-block (b .heading) (h .0 .heading) .sort))
     ∙ blocks-run rules 0 (b ∷ f) r h
 
 -- a run over the tokens of a whole tree makes the tree's rows

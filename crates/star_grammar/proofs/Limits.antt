@@ -13,7 +13,8 @@ use Rattle.star_lex.proofs.Cases.{cond-cases}
 use Rattle.star_lex.proofs.Each.{each-implies}
 use Rattle.star_grammar.specs.Tree.{Loop, LoopBy, Entry, item, looped, EntryBy, EntryWhole, Member, own, framed, MemberBy, MemberWhole, Block, BlockBy, BlockWhole, File, FileBy, FileWhole}
 use Rattle.star_grammar.specs.Tables.{Rows, pass}
-use Rattle.star_grammar.specs.Machine.{Sort, sortOf, Where, State, start, within, named, header, body, go, refuse, headerStep, step, walk}
+use Rattle.star_grammar.specs.Machine.{Sort, sortOf, Where, State, start, within, named, header, body, go, refuse, headerStep, step, stepAt, walk}
+use Rattle.star_grammar.proofs.Sorts.{step-no-global, goes-no-global, goes-step}
 use Rattle.star_grammar.proofs.Alive.{walkOn, walk-on, refuse-go, walk-induction}
 use Rattle.star_grammar.proofs.Walking.{Walks}
 
@@ -33,7 +34,6 @@ module _ (rules : Rules) (more : ℕ) (least : rules .levels ≤ more) where
   header-limit w first before n s Sort.stop r st u e = e
   header-limit w first before n s Sort.name r st u e = e
   header-limit w first before n s Sort.value r st u e = e
-  header-limit w first before n s Sort.global r st u e = e
 
   step-limit : (st s : State) (k : Sort) (r u : Rows) → step rules st k r ≡ go s u → step (atLevels rules more) st k r ≡ go s u
   unfolding step
@@ -43,12 +43,17 @@ module _ (rules : Rules) (more : ℕ) (least : rules .levels ≤ more) where
   step-limit (header w first before n c) s k r u e = header-limit w first before n c k r s u e
   step-limit (body w outer l inner f) s k r u e = e
 
+  at-limit : (st s : State) (kind : ℕ) (r u : Rows) → stepAt rules st kind r ≡ go s u → stepAt (atLevels rules more) st kind r ≡ go s u
+  at-limit st s kind r u e =
+      step-no-global (atLevels rules more) st kind r (goes-no-global rules st s kind r u e)
+      ∙ step-limit st s (sortOf kind) r u (goes-step rules st s kind r u e)
+
   -- a walk goes the same way
   pub walk-limit : (st s : State) (p : List Token) (r u : Rows) → walk rules st p r ≡ go s u → walk (atLevels rules more) st p r ≡ go s u
   unfolding walk
   walk-limit st s p r u e =
       walk-induction rules (λ st′ q v. walk (atLevels rules more) st′ q v ≡ go s u) s u refl
-      (λ st′ s′ t q v v′ g later. walk-on (atLevels rules more) st′ t q v ∙ ap (walkOn (atLevels rules more) q) (step-limit st′ s′ (sortOf (t .kind)) v v′ g) ∙ later) p st r e
+      (λ st′ s′ t q v v′ g later. walk-on (atLevels rules more) st′ t q v ∙ ap (walkOn (atLevels rules more) q) (at-limit st′ s′ (t .kind) v v′ g) ∙ later) p st r e
 
   pub walks-limit : (st : State) (p : List Token) (r : Rows) → Walks rules st p r → Walks (atLevels rules more) st p r
   walks-limit st p r k = (k .0, k .1, walk-limit st (k .0) p r (k .1) (k .2))

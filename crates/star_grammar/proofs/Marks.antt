@@ -10,6 +10,7 @@ use Rattle.star_lex.specs.Rules.{Rules}
 use Rattle.star_lex.specs.Tokens.{Token}
 use Rattle.star_grammar.specs.Tables.{Rows}
 use Rattle.star_grammar.specs.Machine.{Sort, sortOf, Where, inBlock, inFrame, Level, State, start, within, named, header, body, Step, go, between, filled, fill, valueAt, begin, headerStep, noValue, noValueAt, bodyStep, startStep, namedStep, step, walk}
+use Rattle.star_grammar.proofs.Sorts.{goes-step}
 use Rattle.star_grammar.proofs.Sane.{Taken, taken-cond, cond-case}
 use Rattle.star_grammar.proofs.Alive.{walk-induction}
 use Rattle.star_grammar.proofs.Refusals.{InPacket}
@@ -23,7 +24,6 @@ mark Sort.loop b = false
 mark Sort.stop b = b
 mark Sort.name b = false
 mark Sort.value b = true
-mark Sort.global b = b
 
 -- and after tokens
 abbrev pub marks : Bool → List Token → Bool
@@ -50,7 +50,6 @@ between-marked (inBlock s) Sort.loop r b = refl
 between-marked (inBlock s) Sort.stop r b = tt
 between-marked (inBlock s) Sort.name r b = refl
 between-marked (inBlock s) Sort.value r b = tt
-between-marked (inBlock s) Sort.global r b = tt
 between-marked (inFrame c s) Sort.block r b = tt
 between-marked (inFrame c s) Sort.frame r b = tt
 between-marked (inFrame c s) Sort.frameEnd r b = tt
@@ -58,7 +57,6 @@ between-marked (inFrame c s) Sort.loop r b = refl
 between-marked (inFrame c s) Sort.stop r b = tt
 between-marked (inFrame c s) Sort.name r b = refl
 between-marked (inFrame c s) Sort.value r b = tt
-between-marked (inFrame c s) Sort.global r b = tt
 
 filled-marked : (w : Where) (outer : List Level) (l : Level) (inner : List ℕ) → Marked (filled w outer l inner) true
 unfolding filled
@@ -93,13 +91,11 @@ header-marked rules w first before n s Sort.stop r b h = taken-cond _ (rules .he
 header-marked rules w first before n s Sort.name r b h = taken-cond _ (eqb s 0) _ _ (λ e. refl) (λ e. tt)
 header-marked rules w first before n s Sort.value r b h =
     taken-cond _ (ltb 0 n) _ _ (λ e. begin-marked w first (reverseAux before (n ∷ [])) r) (λ e. tt)
-header-marked rules w first before n s Sort.global r b h = tt
 
 body-marked : (w : Where) (outer : List Level) (l : Level) (inner : List ℕ) (f : ℕ) (k : Sort) (r : Rows) (b : Bool) → b ≡ true
     → TakenMarked k b (bodyStep w outer l inner f k r)
 unfolding bodyStep noValueAt noValue
 body-marked w outer l inner f Sort.value r b h = value-marked w outer l inner f r
-body-marked w outer l inner f Sort.global r b h = tt
 body-marked w outer l inner (suc f) Sort.block r b h = tt
 body-marked w outer l inner (suc f) Sort.frame r b h = tt
 body-marked w outer l inner (suc f) Sort.frameEnd r b h = tt
@@ -128,7 +124,6 @@ start-marked Sort.loop r b = tt
 start-marked Sort.stop r b = tt
 start-marked Sort.name r b = tt
 start-marked Sort.value r b = tt
-start-marked Sort.global r b = tt
 
 named-marked : (w : Where) (k : Sort) (r : Rows) (b : Bool) → TakenMarked k b (namedStep w k r)
 unfolding namedStep
@@ -139,7 +134,6 @@ named-marked w Sort.loop r b = tt
 named-marked w Sort.stop r b = tt
 named-marked w Sort.name r b = tt
 named-marked w Sort.value r b = tt
-named-marked w Sort.global r b = tt
 
 step-marked : (rules : Rules) (st : State) (k : Sort) (r : Rows) (b : Bool) → Marked st b → TakenMarked k b (step rules st k r)
 unfolding step
@@ -152,7 +146,7 @@ step-marked rules (body w outer l inner f) k r b h = body-marked w outer l inner
 pub walk-marked : (rules : Rules) (st s : State) (p : List Token) (r u : Rows) (b : Bool) → walk rules st p r ≡ go s u → Marked st b → Marked s (marks b p)
 walk-marked rules st s p r u b e h =
     walk-induction rules (λ st′ q v. (c : Bool) → Marked st′ c → Marked s (marks c q)) s u (λ c m. m)
-    (λ st′ s′ t q v v′ g later c m. later (mark (sortOf (t .kind)) c) (rw g at (step-marked rules st′ (sortOf (t .kind)) v c m))) p st r e b h
+    (λ st′ s′ t q v v′ g later c m. later (mark (sortOf (t .kind)) c) (rw (goes-step rules st′ s′ (t .kind) v v′ g) at (step-marked rules st′ (sortOf (t .kind)) v c m))) p st r e b h
 
 pub packet-marked : (st : State) (b : Bool) → InPacket st → Marked st b → b ≡ true
 packet-marked start b h m = absurd h

@@ -10,6 +10,7 @@ use Rattle.star_lex.specs.Rules.{Rules}
 use Rattle.star_lex.specs.Tokens.{Token}
 use Rattle.star_grammar.specs.Tables.{Rows, noRows, pass, openLoop, putSet, putName, putPacket, putValue}
 use Rattle.star_grammar.specs.Machine.{Sort, sortOf, Where, inBlock, inFrame, Level, State, start, within, named, header, body, Step, go, refuse, between, fill, valueAt, begin, headerStep, noValue, noValueAt, bodyStep, startStep, namedStep, step, bad, endBetween, endBody, endRun, walk}
+use Rattle.star_grammar.proofs.Sorts.{goes-step}
 use Rattle.star_grammar.proofs.Sound.{bad-good}
 use Rattle.star_grammar.proofs.Alive.{walk-induction}
 
@@ -31,7 +32,6 @@ between-passes (inBlock s) Sort.loop r = refl
 between-passes (inBlock s) Sort.stop r = tt
 between-passes (inBlock s) Sort.name r = refl
 between-passes (inBlock s) Sort.value r = tt
-between-passes (inBlock s) Sort.global r = tt
 between-passes (inFrame b s) Sort.block r = tt
 between-passes (inFrame b s) Sort.frame r = tt
 between-passes (inFrame b s) Sort.frameEnd r = refl
@@ -39,7 +39,6 @@ between-passes (inFrame b s) Sort.loop r = refl
 between-passes (inFrame b s) Sort.stop r = tt
 between-passes (inFrame b s) Sort.name r = refl
 between-passes (inFrame b s) Sort.value r = tt
-between-passes (inFrame b s) Sort.global r = tt
 
 value-passes : (w : Where) (outer : List Level) (l : Level) (inner : List ℕ) (f : ℕ) (r : Rows) → Passes (r .tokens) (valueAt w outer l inner f r)
 unfolding valueAt fill putValue putPacket
@@ -63,7 +62,6 @@ header-passes rules w first before n s Sort.stop r = passes-cond (r .tokens) (ru
 header-passes rules w first before n s Sort.name r = passes-cond (r .tokens) (eqb s 0) _ _ refl tt
 header-passes rules w first before n s Sort.value r =
     passes-cond (r .tokens) (ltb 0 n) _ _ (begin-passes w first (reverseAux before (n ∷ [])) r) tt
-header-passes rules w first before n s Sort.global r = tt
 
 no-value-passes : (w : Where) (outer : List Level) (l : Level) (inner : List ℕ) (f : ℕ) (k : Sort) (r : Rows)
     → Passes (r .tokens) (noValueAt w outer l inner f k r)
@@ -77,7 +75,6 @@ no-value-passes w (o ∷ outer) l inner zero Sort.loop r = tt
 no-value-passes w (o ∷ outer) l inner zero Sort.stop r = refl
 no-value-passes w (o ∷ outer) l inner zero Sort.name r = tt
 no-value-passes w (o ∷ outer) l inner zero Sort.value r = tt
-no-value-passes w (o ∷ outer) l inner zero Sort.global r = tt
 
 body-passes : (w : Where) (outer : List Level) (l : Level) (inner : List ℕ) (f : ℕ) (k : Sort) (r : Rows)
     → Passes (r .tokens) (bodyStep w outer l inner f k r)
@@ -89,7 +86,6 @@ body-passes w outer l inner f Sort.loop r = no-value-passes w outer l inner f So
 body-passes w outer l inner f Sort.stop r = no-value-passes w outer l inner f Sort.stop r
 body-passes w outer l inner f Sort.name r = no-value-passes w outer l inner f Sort.name r
 body-passes w outer l inner f Sort.value r = value-passes w outer l inner f r
-body-passes w outer l inner f Sort.global r = tt
 
 start-passes : (k : Sort) (r : Rows) → Passes (r .tokens) (startStep k r)
 unfolding startStep putSet
@@ -100,7 +96,6 @@ start-passes Sort.loop r = tt
 start-passes Sort.stop r = tt
 start-passes Sort.name r = tt
 start-passes Sort.value r = tt
-start-passes Sort.global r = tt
 
 named-passes : (w : Where) (k : Sort) (r : Rows) → Passes (r .tokens) (namedStep w k r)
 unfolding namedStep putValue
@@ -111,7 +106,6 @@ named-passes w Sort.loop r = tt
 named-passes w Sort.stop r = tt
 named-passes w Sort.name r = tt
 named-passes w Sort.value r = refl
-named-passes w Sort.global r = tt
 
 step-passes : (rules : Rules) (st : State) (k : Sort) (r : Rows) → Passes (r .tokens) (step rules st k r)
 unfolding step
@@ -125,7 +119,7 @@ step-passes rules (body w outer l inner f) k r = body-passes w outer l inner f k
 pub walk-passes : (rules : Rules) (st st′ : State) (p : List Token) (r r′ : Rows) → walk rules st p r ≡ go st′ r′ → r′ .tokens ≡ r .tokens + length p
 walk-passes rules st st′ p r r′ e =
     walk-induction rules (λ s q u. r′ .tokens ≡ u .tokens + length q) st′ r′ (omega arith)
-    (λ s s′ t q u u′ g later. let h : u′ .tokens ≡ suc (u .tokens) = rw g at (step-passes rules s (sortOf (t .kind)) u) in omega arith) p st r e
+    (λ s s′ t q u u′ g later. let h : u′ .tokens ≡ suc (u .tokens) = rw (goes-step rules s s′ (t .kind) u u′ g) at (step-passes rules s (sortOf (t .kind)) u) in omega arith) p st r e
 
 pub walk-length : (rules : Rules) (st : State) (p : List Token) (r : Rows) → walk rules start p noRows ≡ go st r → r .tokens ≡ length p
 unfolding noRows

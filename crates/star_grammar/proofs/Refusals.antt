@@ -1,4 +1,4 @@
--- Which number a refused step gives: 12 at `global_`; 11 at a `loop_` that more levels would allow; 10 in a packet that lacks values or while an
+-- Which number a refused step at a sort gives: 11 at a `loop_` that more levels would allow; 10 in a packet that lacks values or while an
 -- inner level is open; 8 elsewhere. By cases on states and sorts.
 use mathlib.Core.Path.{_≡_, refl}
 use mathlib.Core.Bool.{Bool, true, false, cond, _&&_}
@@ -24,7 +24,6 @@ InPacket (body w (o ∷ outer) l inner zero) = Unit {0}
 
 -- why a step refuses
 pub data Refusal (rules : Rules) (st : State) (k : Sort) (r : Rows) : ℕ → Type 0 where
-  global : k ≡ Sort.global → Refusal rules st k r 12
   deep : (more : ℕ) → rules .levels ≤ more → (s : State) (u : Rows) → step (atLevels rules more) st k r ≡ go s u → Refusal rules st k r 11
   packet : InPacket st → ((l : ℕ) → step (atLevels rules l) st k r ≡ refuse 10) → Refusal rules st k r 10
   other : (InPacket st → ⊥) → ((l : ℕ) → step (atLevels rules l) st k r ≡ refuse 8) → Refusal rules st k r 8
@@ -59,7 +58,6 @@ module _ (rules : Rules) where
   between-refusal st h (inBlock s) Sort.stop r e = Refusal.other h e
   between-refusal st h (inBlock s) Sort.name r e = tt
   between-refusal st h (inBlock s) Sort.value r e = Refusal.other h e
-  between-refusal st h (inBlock s) Sort.global r e = Refusal.global refl
   between-refusal st h (inFrame b s) Sort.block r e = Refusal.other h e
   between-refusal st h (inFrame b s) Sort.frame r e = Refusal.other h e
   between-refusal st h (inFrame b s) Sort.frameEnd r e = tt
@@ -67,7 +65,6 @@ module _ (rules : Rules) where
   between-refusal st h (inFrame b s) Sort.stop r e = Refusal.other h e
   between-refusal st h (inFrame b s) Sort.name r e = tt
   between-refusal st h (inFrame b s) Sort.value r e = Refusal.other h e
-  between-refusal st h (inFrame b s) Sort.global r e = Refusal.global refl
 
   header-refusal : (w : Where) (first : ℕ) (before : List ℕ) (n s : ℕ) (k : Sort) (r : Rows)
       → Refused (Refusal rules (header w first before n s) k r) (headerStep rules w first before n s k r)
@@ -88,13 +85,11 @@ module _ (rules : Rules) where
       refused-cond _ (ltb 0 n) _ _
       (λ e. begin-refused _ w first (reverseAux before (n ∷ [])) r (rw length-reverseAux (omega arith)))
       (λ e. Refusal.other (λ x. x) (λ l. rw e))
-  header-refusal w first before n s Sort.global r = Refusal.global refl
 
   body-refusal : (w : Where) (outer : List Level) (l : Level) (inner : List ℕ) (f : ℕ) (k : Sort) (r : Rows)
       → Refused (Refusal rules (body w outer l inner f) k r) (bodyStep w outer l inner f k r)
   unfolding step bodyStep noValueAt noValue
   body-refusal w outer l inner f Sort.value r = value-refused _ w outer l inner f r
-  body-refusal w outer l inner f Sort.global r = Refusal.global refl
   body-refusal w outer l inner (suc f) Sort.block r = Refusal.packet tt (λ l. refl)
   body-refusal w outer l inner (suc f) Sort.frame r = Refusal.packet tt (λ l. refl)
   body-refusal w outer l inner (suc f) Sort.frameEnd r = Refusal.packet tt (λ l. refl)
@@ -123,7 +118,6 @@ module _ (rules : Rules) where
   start-refusal Sort.stop r = Refusal.other (λ x. x) (λ l. refl)
   start-refusal Sort.name r = Refusal.other (λ x. x) (λ l. refl)
   start-refusal Sort.value r = Refusal.other (λ x. x) (λ l. refl)
-  start-refusal Sort.global r = Refusal.global refl
 
   named-refusal : (w : Where) (k : Sort) (r : Rows) → Refused (Refusal rules (named w) k r) (namedStep w k r)
   unfolding step namedStep
@@ -134,7 +128,6 @@ module _ (rules : Rules) where
   named-refusal w Sort.stop r = Refusal.other (λ x. x) (λ l. refl)
   named-refusal w Sort.name r = Refusal.other (λ x. x) (λ l. refl)
   named-refusal w Sort.value r = tt
-  named-refusal w Sort.global r = Refusal.global refl
 
   step-refusal : (st : State) (k : Sort) (r : Rows) → Refused (Refusal rules st k r) (step rules st k r)
   unfolding step
@@ -146,16 +139,6 @@ module _ (rules : Rules) where
 
   pub refusal : (st : State) (k : Sort) (r : Rows) (n : ℕ) → step rules st k r ≡ refuse n → Refusal rules st k r n
   refusal st k r n e = rw e at (step-refusal st k r)
-
--- every state refuses `global_`
-pub global-refused : (rules : Rules) (st : State) (r : Rows) → step rules st Sort.global r ≡ refuse 12
-unfolding step startStep between namedStep headerStep bodyStep
-global-refused rules start r = refl
-global-refused rules (within (inBlock s)) r = refl
-global-refused rules (within (inFrame b s)) r = refl
-global-refused rules (named w) r = refl
-global-refused rules (header w first before n s) r = refl
-global-refused rules (body w outer l inner f) r = refl
 
 -- in a packet no name may come
 pub packet-name : (rules : Rules) (st : State) (r : Rows) → InPacket st → step rules st Sort.name r ≡ refuse 10

@@ -9,9 +9,10 @@ use lib.ListN.{length, length-reverseAux}
 use borrow.Author.Tests.{ltb-true}
 use Rattle.star_lex.specs.Rules.{Rules}
 use Rattle.star_grammar.specs.Tables.{Rows, pass}
-use Rattle.star_grammar.specs.Machine.{Sort, Where, inBlock, inFrame, Level, State, start, within, named, header, body, Step, go, refuse, between, filled, fill, valueAt, begin, headerStep, noValue, noValueAt, bodyStep, startStep, namedStep, step}
+use Rattle.star_grammar.specs.Machine.{Sort, sortOf, Where, inBlock, inFrame, Level, State, start, within, named, header, body, Step, go, refuse, between, filled, fill, valueAt, begin, headerStep, noValue, noValueAt, bodyStep, startStep, namedStep, step, stepAt}
 use Rattle.star_grammar.specs.Rest.{SaneHeader, SaneBody, Sane}
 use Rattle.star_grammar.proofs.Counts.{Counts}
+use Rattle.star_grammar.proofs.Sorts.{goes-step}
 
 -- a property of the state that a step leads to, if it is taken
 abbrev pub Taken : (State → Type 0) → Step → Type 0
@@ -113,7 +114,6 @@ module _ (rules : Rules) (least : 1 ≤ rules .levels) where
       (λ e. begin-sane w first (reverseAux before (n ∷ [])) r (reverse-counts before (n ∷ []) (h .some-names) (ltb-true 0 n e, tt))
       (rw length-reverseAux (omega (arith, h .levels))))
       (λ e. tt)
-  header-sane w first before n s Sort.global r h = tt
 
   between-sane : (w : Where) (k : Sort) (r : Rows) → Taken (Sane rules) (between w k r)
   unfolding between
@@ -124,7 +124,6 @@ module _ (rules : Rules) (least : 1 ≤ rules .levels) where
   between-sane (inBlock s) Sort.stop r = tt
   between-sane (inBlock s) Sort.name r = tt
   between-sane (inBlock s) Sort.value r = tt
-  between-sane (inBlock s) Sort.global r = tt
   between-sane (inFrame b s) Sort.block r = tt
   between-sane (inFrame b s) Sort.frame r = tt
   between-sane (inFrame b s) Sort.frameEnd r = tt
@@ -132,7 +131,6 @@ module _ (rules : Rules) (least : 1 ≤ rules .levels) where
   between-sane (inFrame b s) Sort.stop r = tt
   between-sane (inFrame b s) Sort.name r = tt
   between-sane (inFrame b s) Sort.value r = tt
-  between-sane (inFrame b s) Sort.global r = tt
 
   no-value-sane : (w : Where) (outer : List Level) (l : Level) (inner : List ℕ) (f : ℕ) (k : Sort) (r : Rows)
       → SaneBody rules outer (l .names) inner f → Taken (Sane rules) (noValueAt w outer l inner f k r)
@@ -151,7 +149,6 @@ module _ (rules : Rules) (least : 1 ≤ rules .levels) where
   }
   no-value-sane w (o ∷ outer) l inner zero Sort.name r h = tt
   no-value-sane w (o ∷ outer) l inner zero Sort.value r h = tt
-  no-value-sane w (o ∷ outer) l inner zero Sort.global r h = tt
 
   body-sane : (w : Where) (outer : List Level) (l : Level) (inner : List ℕ) (f : ℕ) (k : Sort) (r : Rows)
       → SaneBody rules outer (l .names) inner f → Taken (Sane rules) (bodyStep w outer l inner f k r)
@@ -163,7 +160,6 @@ module _ (rules : Rules) (least : 1 ≤ rules .levels) where
   body-sane w outer l inner f Sort.stop r h = no-value-sane w outer l inner f Sort.stop r h
   body-sane w outer l inner f Sort.name r h = no-value-sane w outer l inner f Sort.name r h
   body-sane w outer l inner f Sort.value r h = value-sane w outer l inner f r h
-  body-sane w outer l inner f Sort.global r h = tt
 
   start-sane : (k : Sort) (r : Rows) → Taken (Sane rules) (startStep k r)
   unfolding startStep
@@ -174,7 +170,6 @@ module _ (rules : Rules) (least : 1 ≤ rules .levels) where
   start-sane Sort.stop r = tt
   start-sane Sort.name r = tt
   start-sane Sort.value r = tt
-  start-sane Sort.global r = tt
 
   named-sane : (w : Where) (k : Sort) (r : Rows) → Taken (Sane rules) (namedStep w k r)
   unfolding namedStep
@@ -185,7 +180,6 @@ module _ (rules : Rules) (least : 1 ≤ rules .levels) where
   named-sane w Sort.stop r = tt
   named-sane w Sort.name r = tt
   named-sane w Sort.value r = tt
-  named-sane w Sort.global r = tt
 
   step-sane : (st : State) (k : Sort) (r : Rows) → Sane rules st → Taken (Sane rules) (step rules st k r)
   unfolding step
@@ -196,5 +190,5 @@ module _ (rules : Rules) (least : 1 ≤ rules .levels) where
   step-sane (body w outer l inner f) k r h = body-sane w outer l inner f k r h
 
   -- a step that is taken leads to a sane state
-  pub sane-kept : (st s : State) (k : Sort) (r r′ : Rows) → Sane rules st → step rules st k r ≡ go s r′ → Sane rules s
-  sane-kept st s k r r′ h e = rw e at (step-sane st k r h)
+  pub sane-kept : (st s : State) (kind : ℕ) (r r′ : Rows) → Sane rules st → stepAt rules st kind r ≡ go s r′ → Sane rules s
+  sane-kept st s kind r r′ h e = rw (goes-step rules st s kind r r′ e) at (step-sane st (sortOf kind) r h)

@@ -12,10 +12,10 @@ use Rattle.star_lex.specs.Rules.{Rules}
 use Rattle.star_lex.specs.Tokens.{Token, Each}
 use Rattle.star_grammar.specs.Tree.{IsValue, IsName, innerYield, packetYield, InnerWhole, Loop, loopYield, LoopBy, Entry, item, looped, entryYield, EntryBy, frameYield, own, framed, memberYield, blockYield, File, fileYield, FileBy, frameEnd, loopStart, stop}
 use Rattle.star_grammar.specs.Tables.{Rows, noRows, rowsOf}
-use Rattle.star_grammar.specs.Machine.{Sort, sortOf, Where, inBlock, inFrame, Level, State, start, within, named, header, body, Step, go, refuse, between, filled, fill, valueAt, begin, headerStep, noValue, noValueAt, bodyStep, startStep, namedStep, step, bad, good, endBetween, endBody, endRun, run}
+use Rattle.star_grammar.specs.Machine.{Sort, sortOf, Where, inBlock, inFrame, Level, State, start, within, named, header, body, Step, go, refuse, between, filled, fill, valueAt, begin, headerStep, noValue, noValueAt, bodyStep, startStep, namedStep, step, stepAt, bad, good, endBetween, endBody, endRun, run}
 use Rattle.star_grammar.specs.Rest.{Fixed, Members, Entries, InSet, Valued, Stopped, Packets, Filling, Levels, Heading, InBody, Blocks, Rest, SaneHeader, SaneBody, Sane}
 use Rattle.star_grammar.proofs.Counts.{Counts}
-use Rattle.star_grammar.proofs.Sorts.{KindOf, sort-kind, onward, run-onward}
+use Rattle.star_grammar.proofs.Sorts.{KindOf, sort-kind, goes-no-global, goes-step, onward, run-onward}
 use Rattle.star_grammar.proofs.Complete.{complete}
 use Rattle.star_grammar.proofs.Sane.{Taken, taken-map, taken-cond, cond-case, both-left, both-right, reverse-counts, sane-kept}
 
@@ -324,7 +324,6 @@ module _ (rules : Rules) (t : Token) (ts : List Token) (fixed : Fixed t) where
   between-back (inBlock s) Sort.stop r e = tt
   between-back (inBlock s) Sort.name r e = set-item rules (inBlock s) t ts e
   between-back (inBlock s) Sort.value r e = tt
-  between-back (inBlock s) Sort.global r e = tt
   between-back (inFrame b s) Sort.block r e = tt
   between-back (inFrame b s) Sort.frame r e = tt
   between-back (inFrame b s) Sort.frameEnd r e = λ m. rw (frame-end-is t fixed e) (set-end rules ts m)
@@ -332,7 +331,6 @@ module _ (rules : Rules) (t : Token) (ts : List Token) (fixed : Fixed t) where
   between-back (inFrame b s) Sort.stop r e = tt
   between-back (inFrame b s) Sort.name r e = set-item rules (inFrame b s) t ts e
   between-back (inFrame b s) Sort.value r e = tt
-  between-back (inFrame b s) Sort.global r e = tt
 
   start-back : (k : Sort) (r : Rows) → KindOf (t .kind) k → Taken (λ s. Rest rules s ts → Blocks rules (t ∷ ts)) (startStep k r)
   unfolding startStep
@@ -343,7 +341,6 @@ module _ (rules : Rules) (t : Token) (ts : List Token) (fixed : Fixed t) where
   start-back Sort.stop r e = tt
   start-back Sort.name r e = tt
   start-back Sort.value r e = tt
-  start-back Sort.global r e = tt
 
   named-back : (w : Where) (k : Sort) (r : Rows) → KindOf (t .kind) k
       → Taken (λ s. Rest rules s ts → Valued (InSet rules w) (t ∷ ts)) (namedStep w k r)
@@ -356,7 +353,6 @@ module _ (rules : Rules) (t : Token) (ts : List Token) (fixed : Fixed t) where
   named-back w Sort.name r e = tt
   named-back w Sort.value r e =
       λ m. record { value = t; after = ts; yield = refl; is-value = record { low = e .0; high = e .1 }; rest = m }
-  named-back w Sort.global r e = tt
 
   begin-back : (w : Where) (first : ℕ) (before : List ℕ) (n s : ℕ) (ls : List ℕ) (r : Rows) → IsValue t → 1 ≤ n → SaneHeader rules before n s
       → Counts ls → reverseAux before (n ∷ []) ≡ ls
@@ -393,7 +389,6 @@ module _ (rules : Rules) (t : Token) (ts : List Token) (fixed : Fixed t) where
       (λ q. begin-back w first before n s (reverseAux before (n ∷ [])) r (record { low = e .0; high = e .1 }) (ltb-true 0 n q) h
       (reverse-counts before (n ∷ []) (h .some-names) (ltb-true 0 n q, tt)) refl)
       (λ q. tt)
-  header-back w first before n s Sort.global r h e = tt
 
   no-value-back : (w : Where) (outer : List Level) (l : Level) (inner : List ℕ) (f : ℕ) (k : Sort) (r : Rows) → KindOf (t .kind) k
       → Taken (λ s. Rest rules s ts → InBody rules w outer l inner f (t ∷ ts)) (noValueAt w outer l inner f k r)
@@ -411,7 +406,6 @@ module _ (rules : Rules) (t : Token) (ts : List Token) (fixed : Fixed t) where
       (no-packet (l .names) inner _ (stop ∷ ts) (record { after = ts; yield = refl; rest = p }))
   no-value-back w (o ∷ outer) l inner zero Sort.name r e = tt
   no-value-back w (o ∷ outer) l inner zero Sort.value r e = tt
-  no-value-back w (o ∷ outer) l inner zero Sort.global r e = tt
 
   body-back : (w : Where) (outer : List Level) (l : Level) (inner : List ℕ) (f : ℕ) (k : Sort) (r : Rows)
       → SaneBody rules outer (l .names) inner f → KindOf (t .kind) k
@@ -424,7 +418,6 @@ module _ (rules : Rules) (t : Token) (ts : List Token) (fixed : Fixed t) where
   body-back w outer l inner f Sort.stop r h e = no-value-back w outer l inner f Sort.stop r e
   body-back w outer l inner f Sort.name r h e = no-value-back w outer l inner f Sort.name r e
   body-back w outer l inner f Sort.value r h e = value-back w outer l inner f r (record { low = e .0; high = e .1 }) (h .room)
-  body-back w outer l inner f Sort.global r h e = tt
 
   step-taken : (st : State) (k : Sort) (r : Rows) → Sane rules st → KindOf (t .kind) k
       → Taken (λ s. Rest rules s ts → Rest rules st (t ∷ ts)) (step rules st k r)
@@ -436,11 +429,11 @@ module _ (rules : Rules) (t : Token) (ts : List Token) (fixed : Fixed t) where
   step-taken (body w outer l inner f) k r h e = body-back w outer l inner f k r h e
 
   -- what may come after a step that is taken may come, with its token, before it
-  pub step-back : (st s : State) (r r′ : Rows) → Sane rules st → step rules st (sortOf (t .kind)) r ≡ go s r′ → Rest rules s ts
+  pub step-back : (st s : State) (r r′ : Rows) → Sane rules st → stepAt rules st (t .kind) r ≡ go s r′ → Rest rules s ts
       → Rest rules st (t ∷ ts)
   step-back st s r r′ h e =
-      subst (Taken (λ (u : State). Rest rules u ts → Rest rules st (t ∷ ts))) e
-      (step-taken st (sortOf (t .kind)) r h (sort-kind (t .kind) (fixed .least) (fixed .most)))
+      subst (Taken (λ (u : State). Rest rules u ts → Rest rules st (t ∷ ts))) (goes-step rules st s (t .kind) r r′ e)
+      (step-taken st (sortOf (t .kind)) r h (sort-kind (t .kind) (fixed .least) (fixed .most) (goes-no-global rules st s (t .kind) r r′ e)))
 
 pub bad-good : (n k : ℕ) (r : Rows) → bad n k ≡ good r → ⊥
 bad-good n k r e = let z : _≡_ {A = ℕ} 0 1 = cc in omega arith
@@ -464,13 +457,13 @@ pub run-back : (rules : Rules) → 1 ≤ rules .levels → (ts : List Token) (st
     → run rules st ts r ≡ good r′ → Rest rules st ts
 unfolding run
 run-back rules least [] st r r′ f h e = end-back rules st r r′ e
-run-back rules least (t ∷ ts) st r r′ f h e = at (λ s r″. run-back rules least ts s r″ r′ (f .1)) (step rules st (sortOf (t .kind)) r) refl
+run-back rules least (t ∷ ts) st r r′ f h e = at (λ s r″. run-back rules least ts s r″ r′ (f .1)) (stepAt rules st (t .kind) r) refl
   where
     at : ((s : State) (r″ : Rows) → Sane rules s → run rules s ts r″ ≡ good r′ → Rest rules s ts)
-        → (x : Step) → step rules st (sortOf (t .kind)) r ≡ x → Rest rules st (t ∷ ts)
+        → (x : Step) → stepAt rules st (t .kind) r ≡ x → Rest rules st (t ∷ ts)
     at later (go s r″) q =
         step-back rules t ts (f .0) st s r r″ h q
-        (later s r″ (sane-kept rules least st s (sortOf (t .kind)) r r″ h q) (ap (onward rules ts r) (sym q) ∙ sym (run-onward rules st t ts r) ∙ e))
+        (later s r″ (sane-kept rules least st s (t .kind) r r″ h q) (ap (onward rules ts r) (sym q) ∙ sym (run-onward rules st t ts r) ∙ e))
     at later (refuse n) q = absurd (bad-good _ _ _ (ap (onward rules ts r) (sym q) ∙ sym (run-onward rules st t ts r) ∙ e))
 
 -- what a run accepts is the yield of a whole tree

@@ -9,15 +9,15 @@ use Rattle.star_lex.specs.Tokens.{Token}
 use Rattle.star_grammar.specs.Tables.{Rows, pass, openLoop, putSet, putName, putPacket, putValue, next}
 
 pub data Sort : Type 0 where
-  block frame frameEnd loop stop name value global : Sort
+  block frame frameEnd loop stop name value : Sort
 
--- the sort of a kind of token
+-- the sort of a kind of token that is not `global_`
 unfoldable pub sortOf : ℕ → Sort
 sortOf kind =
     cond (eqb kind 1) block
     (cond (eqb kind 2) frame
     (cond (eqb kind 3) frameEnd
-    (cond (eqb kind 4) loop (cond (eqb kind 5) stop (cond (eqb kind 6) name (cond (eqb kind 12) global value))))))
+    (cond (eqb kind 4) loop (cond (eqb kind 5) stop (cond (eqb kind 6) name value)))))
 
 -- the set that is open: a block, or a frame of a block
 pub data Where : Type 0 where
@@ -61,7 +61,6 @@ between (inBlock s) loop r = go (header (inBlock s) (next (r .names)) [] 0 0) (o
 between (inBlock s) stop r = refuse 8
 between (inBlock s) name r = go (named (inBlock s)) (putName s 0 0 r)
 between (inBlock s) value r = refuse 8
-between (inBlock s) global r = refuse 12
 between (inFrame b s) block r = refuse 8
 between (inFrame b s) frame r = refuse 8
 between (inFrame b s) frameEnd r = go (within (inBlock b)) (pass r)
@@ -69,7 +68,6 @@ between (inFrame b s) loop r = go (header (inFrame b s) (next (r .names)) [] 0 0
 between (inFrame b s) stop r = refuse 8
 between (inFrame b s) name r = go (named (inFrame b s)) (putName s 0 0 r)
 between (inFrame b s) value r = refuse 8
-between (inFrame b s) global r = refuse 12
 
 -- after the last value of a packet: the deeper level, if there is one
 unfoldable pub filled : Where → List Level → Level → List ℕ → State
@@ -106,7 +104,6 @@ headerStep rules w first before n s stop r =
 headerStep rules w first before n s name r =
     cond (eqb s 0) (go (header w first before (suc n) 0) (putName (setOf w) (r .loops) (suc (length before)) r)) (refuse 8)
 headerStep rules w first before n s value r = cond (ltb 0 n) (begin w first (reverseAux before (n ∷ [])) r) (refuse 8)
-headerStep rules w first before n s global r = refuse 12
 
 -- no packet is begun and no value comes: an open inner level takes `stop_` alone
 unfoldable pub noValue : Where → List Level → Level → List ℕ → Sort → Rows → Step
@@ -118,7 +115,6 @@ noValue w (o ∷ outer) l inner loop r = refuse 10
 noValue w (o ∷ outer) l inner stop r = go (body w outer o (l .names ∷ inner) 0) (pass r)
 noValue w (o ∷ outer) l inner name r = refuse 10
 noValue w (o ∷ outer) l inner value r = refuse 10
-noValue w (o ∷ outer) l inner global r = refuse 12
 
 -- a packet that is begun and not full takes values alone
 unfoldable pub noValueAt : Where → List Level → Level → List ℕ → ℕ → Sort → Rows → Step
@@ -133,7 +129,6 @@ bodyStep w outer l inner f loop r = noValueAt w outer l inner f loop r
 bodyStep w outer l inner f stop r = noValueAt w outer l inner f stop r
 bodyStep w outer l inner f name r = noValueAt w outer l inner f name r
 bodyStep w outer l inner f value r = valueAt w outer l inner f r
-bodyStep w outer l inner f global r = refuse 12
 
 unfoldable pub startStep : Sort → Rows → Step
 startStep block r = go (within (inBlock (next (r .sets)))) (putSet 1 0 r)
@@ -143,7 +138,6 @@ startStep loop r = refuse 8
 startStep stop r = refuse 8
 startStep name r = refuse 8
 startStep value r = refuse 8
-startStep global r = refuse 12
 
 unfoldable pub namedStep : Where → Sort → Rows → Step
 namedStep w block r = refuse 8
@@ -153,15 +147,18 @@ namedStep w loop r = refuse 8
 namedStep w stop r = refuse 8
 namedStep w name r = refuse 8
 namedStep w value r = go (within w) (putValue (length (r .names)) 0 r)
-namedStep w global r = refuse 12
 
--- a step, by the rules
+-- a step at a sort, by the rules
 unfoldable pub step : (rules : Rules) → State → Sort → Rows → Step
 step rules start k r = startStep k r
 step rules (within w) k r = between w k r
 step rules (named w) k r = namedStep w k r
 step rules (header w first before n s) k r = headerStep rules w first before n s k r
 step rules (body w outer l inner f) k r = bodyStep w outer l inner f k r
+
+-- a step at a kind of token: `global_` is refused before the state is asked
+abbrev pub stepAt : (rules : Rules) → State → (kind : ℕ) → Rows → Step
+stepAt rules st kind r = cond (eqb kind 12) (refuse 12) (step rules st (sortOf kind) r)
 
 -- what a run gives: refusal and how many tokens stand before the bad one, or the rows
 pub data Run : Type 0 where
@@ -187,9 +184,9 @@ endRun (body w outer l inner f) r = endBody w outer f r
 
 unfoldable pub run : (rules : Rules) → State → List Token → Rows → Run
 run rules st [] r = endRun st r
-run rules st (t ∷ ts) r = elim (step rules st (sortOf (t .kind)) r) [ go s r′ ↦ run rules s ts r′ | refuse n ↦ bad n (r .tokens) ]
+run rules st (t ∷ ts) r = elim (stepAt rules st (t .kind) r) [ go s r′ ↦ run rules s ts r′ | refuse n ↦ bad n (r .tokens) ]
 
 -- the state and the rows after tokens
 unfoldable pub walk : (rules : Rules) → State → List Token → Rows → Step
 walk rules st [] r = go st r
-walk rules st (t ∷ ts) r = elim (step rules st (sortOf (t .kind)) r) [ go s r′ ↦ walk rules s ts r′ | refuse n ↦ refuse n ]
+walk rules st (t ∷ ts) r = elim (stepAt rules st (t .kind) r) [ go s r′ ↦ walk rules s ts r′ | refuse n ↦ refuse n ]

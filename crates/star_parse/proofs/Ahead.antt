@@ -13,8 +13,8 @@ use Rattle.star_lex.specs.Tokens.{Token}
 use Rattle.star_grammar.specs.Tables.{Rows}
 use Rattle.star_grammar.specs.Machine.{Sort, sortOf, State, go, step, endRun, run}
 use Rattle.star_parse.specs.Parsed.{kindTokens}
-use Rattle.star_parse.specs.Reader.{sortNumber, ahead, sortAt, SortAt, Ahead, refusalOf}
-use Rattle.star_grammar.proofs.Sorts.{onward, run-sort}
+use Rattle.star_parse.specs.Reader.{sortNumber, numberOf, ahead, sortAt, SortAt, Ahead, refusalOf}
+use Rattle.star_grammar.proofs.Sorts.{OfSort, onward, run-sort}
 use Rattle.star_parse.proofs.RunKinds.{length-kinds, kind-at}
 
 -- a sort has the number that is a kind of it
@@ -27,11 +27,24 @@ number-sort Sort.loop = refl
 number-sort Sort.stop = refl
 number-sort Sort.name = refl
 number-sort Sort.value = refl
-number-sort Sort.global = refl
+
+pub number-bounds : (k : Sort) → (0 < sortNumber k) × (sortNumber k ≤ 7)
+unfolding sortNumber
+number-bounds Sort.block = (omega arith, omega arith)
+number-bounds Sort.frame = (omega arith, omega arith)
+number-bounds Sort.frameEnd = (omega arith, omega arith)
+number-bounds Sort.loop = (omega arith, omega arith)
+number-bounds Sort.stop = (omega arith, omega arith)
+number-bounds Sort.name = (omega arith, omega arith)
+number-bounds Sort.value = (omega arith, omega arith)
 
 -- the numbers of kinds
-pub sort-low : (kind : ℕ) → (kind ≡ 0 → ⊥) → kind < 7 → kind ≡ sortNumber (sortOf kind)
-unfolding sortOf sortNumber
+pub number-no-global : (kind : ℕ) → (kind ≡ 12 → ⊥) → numberOf kind ≡ sortNumber (sortOf kind)
+unfolding numberOf
+number-no-global kind h = rw (ne-eqb kind 12 h)
+
+pub sort-low : (kind : ℕ) → (kind ≡ 0 → ⊥) → kind < 7 → kind ≡ numberOf kind
+unfolding sortOf sortNumber numberOf
 sort-low zero n h = absurd (n refl)
 sort-low (suc zero) n h = refl
 sort-low (suc (suc zero)) n h = refl
@@ -41,61 +54,65 @@ sort-low (suc (suc (suc (suc (suc zero))))) n h = refl
 sort-low (suc (suc (suc (suc (suc (suc zero)))))) n h = refl
 sort-low (suc (suc (suc (suc (suc (suc (suc k))))))) n h = absurd (omega arith)
 
-pub sort-high : (kind : ℕ) → 7 ≤ kind → (kind ≡ 12 → ⊥) → 7 ≡ sortNumber (sortOf kind)
-unfolding sortOf sortNumber
+pub sort-high : (kind : ℕ) → 7 ≤ kind → (kind ≡ 12 → ⊥) → 7 ≡ numberOf kind
+unfolding sortOf sortNumber numberOf
 sort-high kind h n =
     rw (
+      ne-eqb kind 12 n,
       ne-eqb kind 1 (omega arith),
       ne-eqb kind 2 (omega arith),
       ne-eqb kind 3 (omega arith),
       ne-eqb kind 4 (omega arith),
       ne-eqb kind 5 (omega arith),
       ne-eqb kind 6 (omega arith),
-      ne-eqb kind 12 n,
     )
 
-number-some : (k : Sort) → 0 < sortNumber k
-unfolding sortNumber
-number-some Sort.block = omega arith
-number-some Sort.frame = omega arith
-number-some Sort.frameEnd = omega arith
-number-some Sort.loop = omega arith
-number-some Sort.stop = omega arith
-number-some Sort.name = omega arith
-number-some Sort.value = omega arith
-number-some Sort.global = omega arith
+number-some : (kind : ℕ) → 0 < numberOf kind
+unfolding numberOf
+number-some kind = at (eqb kind 12)
+  where
+    at : (b : Bool) → 0 < cond b 12 (sortNumber (sortOf kind))
+    at true = omega arith
+    at false = number-bounds (sortOf kind) .0
+
+-- a kind with the number of a sort is of that sort
+number-of : (kind : ℕ) (k : Sort) → numberOf kind ≡ sortNumber k → OfSort kind k
+unfolding numberOf
+number-of kind k e =
+    let o : (kind ≡ 12 → ⊥) = λ q. omega (arith, ap numberOf q, number-bounds k .1) in
+    record { no-global = o; sort = sym (number-sort (sortOf kind)) ∙ ap sortOf (sym (number-no-global kind o) ∙ e) ∙ number-sort k }
 
 -- the first token of a row whose next sort is this one
 pub run-ahead : (rules : Rules) (st : State) (ts : List Token) (r : Rows) (k : Sort) → ahead ts ≡ sortNumber k
     → run rules st ts r ≡ onward rules (drop 1 ts) r (step rules st k r)
 unfolding ahead
-run-ahead rules st [] r k e = absurd (omega (arith, number-some k))
+run-ahead rules st [] r k e = absurd (omega (arith, number-bounds k .0))
 run-ahead rules st (t ∷ ts) r k e =
-    run-sort rules st t ts r k (sym (number-sort (sortOf (t .kind))) ∙ ap sortOf e ∙ number-sort k)
+    run-sort rules st t ts r k (number-of (t .kind) k e)
 
 -- the end
 pub run-end : (rules : Rules) (st : State) (ts : List Token) (r : Rows) → ahead ts ≡ 0 → run rules st ts r ≡ endRun st r
 unfolding ahead run
 run-end rules st [] r e = refl
-run-end rules st (t ∷ ts) r e = absurd (omega (arith, number-some (sortOf (t .kind))))
+run-end rules st (t ∷ ts) r e = absurd (omega (arith, number-some (t .kind)))
 
 -- the place after the next token
 pub drop-next : (ts : List Token) (at next : ℕ) → next ≡ at + 1 → drop 1 (drop at ts) ≡ drop next ts
 drop-next ts at next e = drop-drop 1 at ts ∙ ap (λ n. drop n ts) (sym e)
 
 -- the sort at a place of the table
-sort-in : (count : ℕ) (words : List ℕ) (at : ℕ) → at < count → sortAt count words at ≡ sortNumber (sortOf (getD words (at * 3) 0))
+sort-in : (count : ℕ) (words : List ℕ) (at : ℕ) → at < count → sortAt count words at ≡ numberOf (getD words (at * 3) 0)
 unfolding ahead
 sort-in count words at h =
     let d : Token = record { kind = 0; content = [] } in
-    ap ahead (drop-cons (kindTokens count words) at d (rw length-kinds h)) ∙ ap (λ n. sortNumber (sortOf n)) (kind-at count words at d h)
+    ap ahead (drop-cons (kindTokens count words) at d (rw length-kinds h)) ∙ ap numberOf (kind-at count words at d h)
 
 sort-past : (count : ℕ) (words : List ℕ) (at : ℕ) → count ≤ at → sortAt count words at ≡ 0
 unfolding ahead
 sort-past count words at h = ap ahead (drop-of-length-le (kindTokens count words) {i = at} (rw length-kinds h))
 
 -- the sort at a place, where one of the rows stands and past them
-pub sort-token : (count : ℕ) (words : List ℕ) (at sort : ℕ) → at < count → sort ≡ sortNumber (sortOf (getD words (at * 3) 0)) → SortAt count words at sort
+pub sort-token : (count : ℕ) (words : List ℕ) (at sort : ℕ) → at < count → sort ≡ numberOf (getD words (at * 3) 0) → SortAt count words at sort
 sort-token count words at sort h e = record { is = e ∙ sym (sort-in count words at h); token = λ _. h }
 
 pub sort-end : (count : ℕ) (words : List ℕ) (at : ℕ) → count ≤ at → SortAt count words at 0
@@ -105,7 +122,7 @@ pub at-end : (count : ℕ) (words : List ℕ) (at : ℕ) → sortAt count words 
 at-end count words at e = go (ltb at count) refl
   where
     go : (b : Bool) → ltb at count ≡ b → count ≤ at
-    go true q = absurd (omega (arith, e, sort-in count words at (ltb-true at count q), number-some (sortOf (getD words (at * 3) 0))))
+    go true q = absurd (omega (arith, e, sort-in count words at (ltb-true at count q), number-some (getD words (at * 3) 0)))
     go false q = ltb-false at count q
 
 -- what a test of the sort says

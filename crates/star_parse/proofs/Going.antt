@@ -11,10 +11,10 @@ use Rattle.star_lex.specs.Tokens.{Token}
 use Rattle.star_grammar.specs.Tables.{Rows, pass, openLoop, putSet, putName, putPacket, putValue}
 use Rattle.star_grammar.specs.Machine.{Sort, sortOf, Where, inBlock, inFrame, setOf, Level, parentOf, State, start, within, named, header, body, go, between, filled, fill, valueAt, headerStep, noValue, noValueAt, bodyStep, startStep, namedStep, step, Run, good, endBetween, endRun, run}
 use Rattle.star_parse.specs.Parsed.{FourTables, tables}
-use Rattle.star_parse.specs.Reader.{sortNumber, ahead, Moved, Misplaced, Put, Matches, At, Comes, Whole, partly}
+use Rattle.star_parse.specs.Reader.{sortNumber, numberOf, ahead, Moved, Misplaced, Put, Matches, At, Comes, Whole, partly}
 use Rattle.star_parse.specs.declared.progress.Progress.{Progress}
 use Rattle.star_grammar.proofs.Sorts.{onward, run-alike}
-use Rattle.star_parse.proofs.Ahead.{run-ahead, run-end, drop-next, refusal-some}
+use Rattle.star_parse.proofs.Ahead.{number-no-global, run-ahead, run-end, drop-next, refusal-some}
 use Rattle.star_parse.proofs.Counted.{matches-pass, matches-open, matches-set, matches-name, matches-packet, matches-value}
 use Rattle.star_parse.proofs.Refusing.{Refuses, partial-refuses}
 use Rattle.star_grammar.proofs.Complete.{level, any-packet, NoValue, after-loop, step-begin, step-loop, step-item, step-deeper}
@@ -22,7 +22,7 @@ use Rattle.star_grammar.proofs.Complete.{level, any-packet, NoValue, after-loop
 no-value : (ts : List Token) → (ahead ts ≡ 7 → ⊥) → NoValue ts
 unfolding ahead sortNumber
 no-value [] h = tt
-no-value (t ∷ ts) h = λ e. h (ap sortNumber e)
+no-value (t ∷ ts) h = λ v. h (number-no-global (t .kind) (v .no-global) ∙ ap sortNumber (v .sort))
 
 closed-step : (b : ℕ) (k : Sort) (r : Rows) → (sortNumber k ≡ 2 → ⊥) → (sortNumber k ≡ 4 → ⊥) → (sortNumber k ≡ 6 → ⊥)
     → step today start k r ≡ step today (within (inBlock b)) k r
@@ -34,13 +34,15 @@ closed-step b Sort.loop r f l n = absurd (l refl)
 closed-step b Sort.stop r f l n = refl
 closed-step b Sort.name r f l n = absurd (n refl)
 closed-step b Sort.value r f l n = refl
-closed-step b Sort.global r f l n = refl
 
 block-closed : (b : ℕ) (ts : List Token) (r : Rows) → (ahead ts ≡ 2 → ⊥) → (ahead ts ≡ 4 → ⊥) → (ahead ts ≡ 6 → ⊥)
     → run today start ts r ≡ run today (within (inBlock b)) ts r
 unfolding ahead run endRun endBetween
 block-closed b [] r f l n = refl
-block-closed b (t ∷ ts) r f l n = run-alike today start (within (inBlock b)) t ts r (closed-step b (sortOf (t .kind)) r f l n)
+block-closed b (t ∷ ts) r f l n =
+    run-alike today start (within (inBlock b)) t ts r
+    (λ o. let e : numberOf (t .kind) ≡ sortNumber (sortOf (t .kind)) = number-no-global (t .kind) o in
+    closed-step b (sortOf (t .kind)) r (λ q. f (e ∙ q)) (λ q. l (e ∙ q)) (λ q. n (e ∙ q)))
 
 module _ (tokens : List Token) (before : FourTables) (outcome : Run) where
   -- over the next token

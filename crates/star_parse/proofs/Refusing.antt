@@ -1,16 +1,19 @@
 -- Where a run refuses: the tokens that a state does not take, by their sorts, and the end.
 use mathlib.Core.Path.{_≡_, refl, ap, _∙_}
+use mathlib.Core.Bool.{Bool, true, false}
 use mathlib.Core.List.{List, [], _∷_}
 use Prim.Native.Nat.{ℕ, suc, _≤_, _<_}
 use native.Mathlib.Omega.{arith}
+use lib.Dec.{eqb}
 use lib.ListN.{length}
 use borrow.Author.Tests.{le-ltb, lt-ltb, ne-eqb}
 use Rattle.star_lex.specs.Rules.{today}
 use Rattle.star_lex.specs.Tokens.{Token}
 use Rattle.star_grammar.specs.Tables.{Rows}
-use Rattle.star_grammar.specs.Machine.{Sort, sortOf, Where, inFrame, Level, State, start, within, named, header, body, refuse, between, headerStep, noValue, noValueAt, bodyStep, startStep, namedStep, step, bad, endBetween, endBody, endRun, run}
-use Rattle.star_parse.specs.Reader.{sortNumber, ahead, refusalOf}
+use Rattle.star_grammar.specs.Machine.{Sort, sortOf, Where, inFrame, Level, State, start, within, named, header, body, refuse, between, headerStep, noValue, noValueAt, bodyStep, startStep, namedStep, step, stepAt, bad, endBetween, endBody, endRun, run}
+use Rattle.star_parse.specs.Reader.{sortNumber, numberOf, ahead, refusalOf}
 use Rattle.star_grammar.proofs.Sorts.{onward, run-onward}
+use Rattle.star_parse.proofs.Ahead.{number-bounds}
 
 -- a state refuses what is ahead, with this number but for `global_`
 abbrev pub Refuses : State → (number sort : ℕ) → (ts : List Token) → Type 0
@@ -18,15 +21,21 @@ Refuses st number sort ts = (r : Rows) → run today st ts r ≡ bad (refusalOf 
 
 -- by sorts, and at the end
 refuses : (st : State) (number : ℕ) (Ahead : ℕ → Type 0)
-    → ((k : Sort) (r : Rows) → Ahead (sortNumber k) → step today st k r ≡ refuse (refusalOf number (sortNumber k)))
+    → ((k : Sort) (r : Rows) → Ahead (sortNumber k) → step today st k r ≡ refuse number)
     → ((r : Rows) → Ahead 0 → endRun st r ≡ bad number (r .tokens))
     → (ts : List Token) → Ahead (ahead ts) → Refuses st number (ahead ts) ts
-unfolding ahead run refusalOf
+unfolding numberOf ahead run refusalOf
 refuses st number Ahead s e [] h r = e r h
-refuses st number Ahead s e (t ∷ ts) h r = run-onward today st t ts r ∙ ap (onward today ts r) (s (sortOf (t .kind)) r h)
+refuses st number Ahead s e (t ∷ ts) h r = run-onward today st t ts r ∙ ap (onward today ts r) (at (eqb (t .kind) 12) refl)
+  where
+    at : (b : Bool) → eqb (t .kind) 12 ≡ b → stepAt today st (t .kind) r ≡ refuse (refusalOf number (numberOf (t .kind)))
+    at true d = rw d
+    at false d =
+        rw (d, ne-eqb (sortNumber (sortOf (t .kind))) 12 (λ q. omega (arith, number-bounds (sortOf (t .kind)) .1)))
+        (s (sortOf (t .kind)) r (rw d at h))
 
-start-step : (k : Sort) (r : Rows) → (sortNumber k ≡ 1 → ⊥) → step today start k r ≡ refuse (refusalOf 8 (sortNumber k))
-unfolding step startStep sortNumber refusalOf
+start-step : (k : Sort) (r : Rows) → (sortNumber k ≡ 1 → ⊥) → step today start k r ≡ refuse 8
+unfolding step startStep sortNumber
 start-step Sort.block r h = absurd (h refl)
 start-step Sort.frame r h = refl
 start-step Sort.frameEnd r h = refl
@@ -34,7 +43,6 @@ start-step Sort.loop r h = refl
 start-step Sort.stop r h = refl
 start-step Sort.name r h = refl
 start-step Sort.value r h = refl
-start-step Sort.global r h = refl
 
 -- before a block: no heading
 pub start-refuses : (ts : List Token) → (ahead ts ≡ 0 → ⊥) → (ahead ts ≡ 1 → ⊥) → Refuses start 8 (ahead ts) ts
@@ -42,8 +50,8 @@ start-refuses ts n h =
     refuses start 8 (λ k. (k ≡ 0 → ⊥) × (k ≡ 1 → ⊥)) (λ k r a. start-step k r (a .1)) (λ r a. absurd (a .0 refl)) ts (n, h)
 
 frame-step : (b s : ℕ) (k : Sort) (r : Rows) → (sortNumber k ≡ 3 → ⊥) → (sortNumber k ≡ 4 → ⊥) → (sortNumber k ≡ 6 → ⊥)
-    → step today (within (inFrame b s)) k r ≡ refuse (refusalOf 8 (sortNumber k))
-unfolding step between sortNumber refusalOf
+    → step today (within (inFrame b s)) k r ≡ refuse 8
+unfolding step between sortNumber
 frame-step b s Sort.block r e l n = refl
 frame-step b s Sort.frame r e l n = refl
 frame-step b s Sort.frameEnd r e l n = absurd (e refl)
@@ -51,7 +59,6 @@ frame-step b s Sort.loop r e l n = absurd (l refl)
 frame-step b s Sort.stop r e l n = refl
 frame-step b s Sort.name r e l n = absurd (n refl)
 frame-step b s Sort.value r e l n = refl
-frame-step b s Sort.global r e l n = refl
 
 -- in a frame: no entry and no `save_`
 pub frame-refuses : (b s : ℕ) (ts : List Token) → (ahead ts ≡ 3 → ⊥) → (ahead ts ≡ 4 → ⊥) → (ahead ts ≡ 6 → ⊥)
@@ -61,8 +68,8 @@ frame-refuses b s ts e l n =
     refuses (within (inFrame b s)) 8 (λ k. (k ≡ 3 → ⊥) × (k ≡ 4 → ⊥) × (k ≡ 6 → ⊥)) (λ k r a. frame-step b s k r (a .0) (a .1) (a .2)) (λ r a. refl) ts
     (e, l, n)
 
-named-step : (w : Where) (k : Sort) (r : Rows) → (sortNumber k ≡ 7 → ⊥) → step today (named w) k r ≡ refuse (refusalOf 8 (sortNumber k))
-unfolding step namedStep sortNumber refusalOf
+named-step : (w : Where) (k : Sort) (r : Rows) → (sortNumber k ≡ 7 → ⊥) → step today (named w) k r ≡ refuse 8
+unfolding step namedStep sortNumber
 named-step w Sort.block r h = refl
 named-step w Sort.frame r h = refl
 named-step w Sort.frameEnd r h = refl
@@ -70,7 +77,6 @@ named-step w Sort.loop r h = refl
 named-step w Sort.stop r h = refl
 named-step w Sort.name r h = refl
 named-step w Sort.value r h = absurd (h refl)
-named-step w Sort.global r h = refl
 
 -- after an item's name: no value
 pub named-refuses : (w : Where) (ts : List Token) → (ahead ts ≡ 7 → ⊥) → Refuses (named w) 8 (ahead ts) ts
@@ -78,8 +84,8 @@ unfolding endRun
 named-refuses w ts h = refuses (named w) 8 (λ k. k ≡ 7 → ⊥) (named-step w) (λ r a. refl) ts h
 
 nameless-step : (w : Where) (first : ℕ) (before : List ℕ) (k : Sort) (r : Rows) → (sortNumber k ≡ 6 → ⊥)
-    → step today (header w first before 0 0) k r ≡ refuse (refusalOf 8 (sortNumber k))
-unfolding step headerStep sortNumber refusalOf
+    → step today (header w first before 0 0) k r ≡ refuse 8
+unfolding step headerStep sortNumber
 nameless-step w first before Sort.block r h = refl
 nameless-step w first before Sort.frame r h = refl
 nameless-step w first before Sort.frameEnd r h = refl
@@ -87,7 +93,6 @@ nameless-step w first before Sort.loop r h = refl
 nameless-step w first before Sort.stop r h = refl
 nameless-step w first before Sort.name r h = absurd (h refl)
 nameless-step w first before Sort.value r h = refl
-nameless-step w first before Sort.global r h = refl
 
 -- a level of a header without a name
 pub nameless-refuses : (w : Where) (first : ℕ) (before : List ℕ) (ts : List Token) → (ahead ts ≡ 6 → ⊥)
@@ -98,11 +103,11 @@ nameless-refuses w first before ts h = refuses (header w first before 0 0) 8 (λ
 -- `loop_` after the last level that is allowed
 pub deepest-refuses : (w : Where) (first : ℕ) (before : List ℕ) (n : ℕ) (ts : List Token) → 0 < n → today .levels ≤ suc (length before) → ahead ts ≡ 4
     → Refuses (header w first before n 0) 11 (ahead ts) ts
-unfolding endRun step headerStep sortNumber refusalOf
+unfolding endRun step headerStep sortNumber
 deepest-refuses w first before n ts some l e =
     refuses (header w first before n 0) 11 (λ k. k ≡ 4) at (λ r a. absurd (omega arith)) ts e
   where
-    at : (k : Sort) (r : Rows) → sortNumber k ≡ 4 → step today (header w first before n 0) k r ≡ refuse (refusalOf 11 (sortNumber k))
+    at : (k : Sort) (r : Rows) → sortNumber k ≡ 4 → step today (header w first before n 0) k r ≡ refuse 11
     at Sort.block r a = absurd (omega arith)
     at Sort.frame r a = absurd (omega arith)
     at Sort.frameEnd r a = absurd (omega arith)
@@ -110,7 +115,6 @@ deepest-refuses w first before n ts some l e =
     at Sort.stop r a = absurd (omega arith)
     at Sort.name r a = absurd (omega arith)
     at Sort.value r a = absurd (omega arith)
-    at Sort.global r a = absurd (omega arith)
 
 -- after a header: what a header with so many stops does not take
 pub record Closed (before stops sort : ℕ) : Type 0 where
@@ -120,8 +124,8 @@ pub record Closed (before stops sort : ℕ) : Type 0 where
   pub name : sort ≡ 6 → 0 < stops
 
 closed-step : (w : Where) (first : ℕ) (before : List ℕ) (n s : ℕ) (k : Sort) (r : Rows) → 0 < n → Closed (length before) s (sortNumber k)
-    → step today (header w first before n s) k r ≡ refuse (refusalOf 8 (sortNumber k))
-unfolding step headerStep sortNumber refusalOf
+    → step today (header w first before n s) k r ≡ refuse 8
+unfolding step headerStep sortNumber
 closed-step w first before n s Sort.block r some h = refl
 closed-step w first before n s Sort.frame r some h = refl
 closed-step w first before n s Sort.frameEnd r some h = refl
@@ -129,7 +133,6 @@ closed-step w first before n s Sort.loop r some h = rw (lt-ltb 0 n some, ne-eqb 
 closed-step w first before n s Sort.stop r some h = rw (lt-ltb 0 n some, le-ltb s (length before) (h .stop refl))
 closed-step w first before n s Sort.name r some h = rw (ne-eqb s 0 (omega (arith, h .name refl)))
 closed-step w first before n s Sort.value r some h = absurd (h .value refl)
-closed-step w first before n s Sort.global r some h = refl
 
 pub closed-refuses : (w : Where) (first : ℕ) (before : List ℕ) (n s : ℕ) (ts : List Token) → 0 < n → Closed (length before) s (ahead ts)
     → Refuses (header w first before n s) 8 (ahead ts) ts
@@ -138,8 +141,8 @@ closed-refuses w first before n s ts some h =
     refuses (header w first before n s) 8 (Closed (length before) s) (λ k r a. closed-step w first before n s k r some a) (λ r a. refl) ts h
 
 partial-step : (w : Where) (outer : List Level) (l : Level) (inner : List ℕ) (f : ℕ) (k : Sort) (r : Rows) → (sortNumber k ≡ 7 → ⊥)
-    → step today (body w outer l inner (suc f)) k r ≡ refuse (refusalOf 10 (sortNumber k))
-unfolding step bodyStep noValueAt sortNumber refusalOf
+    → step today (body w outer l inner (suc f)) k r ≡ refuse 10
+unfolding step bodyStep noValueAt sortNumber
 partial-step w outer l inner f Sort.block r h = refl
 partial-step w outer l inner f Sort.frame r h = refl
 partial-step w outer l inner f Sort.frameEnd r h = refl
@@ -147,7 +150,6 @@ partial-step w outer l inner f Sort.loop r h = refl
 partial-step w outer l inner f Sort.stop r h = refl
 partial-step w outer l inner f Sort.name r h = refl
 partial-step w outer l inner f Sort.value r h = absurd (h refl)
-partial-step w outer l inner f Sort.global r h = refl
 
 partial-end : (w : Where) (outer : List Level) (l : Level) (inner : List ℕ) (f : ℕ) (r : Rows)
     → endRun (body w outer l inner (suc f)) r ≡ bad 10 (r .tokens)
@@ -162,8 +164,8 @@ partial-refuses w outer l inner f ts h =
     refuses (body w outer l inner (suc f)) 10 (λ k. k ≡ 7 → ⊥) (partial-step w outer l inner f) (λ r a. partial-end w outer l inner f r) ts h
 
 open-step : (w : Where) (o : Level) (outer : List Level) (l : Level) (inner : List ℕ) (k : Sort) (r : Rows) → (sortNumber k ≡ 7 → ⊥)
-    → (sortNumber k ≡ 5 → ⊥) → step today (body w (o ∷ outer) l inner 0) k r ≡ refuse (refusalOf 10 (sortNumber k))
-unfolding step bodyStep noValueAt noValue sortNumber refusalOf
+    → (sortNumber k ≡ 5 → ⊥) → step today (body w (o ∷ outer) l inner 0) k r ≡ refuse 10
+unfolding step bodyStep noValueAt noValue sortNumber
 open-step w o outer l inner Sort.block r h s = refl
 open-step w o outer l inner Sort.frame r h s = refl
 open-step w o outer l inner Sort.frameEnd r h s = refl
@@ -171,7 +173,6 @@ open-step w o outer l inner Sort.loop r h s = refl
 open-step w o outer l inner Sort.stop r h s = absurd (s refl)
 open-step w o outer l inner Sort.name r h s = refl
 open-step w o outer l inner Sort.value r h s = absurd (h refl)
-open-step w o outer l inner Sort.global r h s = refl
 
 -- in an open inner level: no value and no `stop_`
 pub open-refuses : (w : Where) (o : Level) (outer : List Level) (l : Level) (inner : List ℕ) (ts : List Token) → (ahead ts ≡ 7 → ⊥)

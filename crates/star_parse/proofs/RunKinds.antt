@@ -13,7 +13,7 @@ use Rattle.star_lex.specs.Rules.{Rules, today}
 use Rattle.star_lex.specs.Tokens.{Token, Placed, tokenRow}
 use Rattle.star_rows.specs.Rows.{holding}
 use Rattle.star_grammar.specs.Tables.{Rows, noRows}
-use Rattle.star_grammar.specs.Machine.{sortOf, State, Step, go, refuse, step, run, start}
+use Rattle.star_grammar.specs.Machine.{State, Step, go, refuse, stepAt, run, start}
 use Rattle.star_parse.specs.Parsed.{kindTokens, hasRows, rowsRun}
 use Rattle.star_grammar.proofs.Sorts.{onward, run-onward}
 
@@ -29,9 +29,10 @@ run-kinds rules st [] [] r e = refl
 run-kinds rules st [] (u ∷ us) r e = let z : _≡_ {A = ℕ} 0 1 = cc in absurd (omega arith)
 run-kinds rules st (t ∷ ts) [] r e = let z : _≡_ {A = ℕ} 0 1 = cc in absurd (omega arith)
 run-kinds rules st (t ∷ ts) (u ∷ us) r e =
+    let k : t .kind ≡ u .kind = cc in
     run-onward rules st t ts r
-    ∙ onward-kinds rules ts us r (λ s r′. run-kinds rules s ts us r′ (cc)) (step rules st (sortOf (t .kind)) r)
-    ∙ ap (λ n. onward rules us r (step rules st (sortOf n) r)) (cc)
+    ∙ onward-kinds rules ts us r (λ s r′. run-kinds rules s ts us r′ (cc)) (stepAt rules st (t .kind) r)
+    ∙ ap (λ n. onward rules us r (stepAt rules st n r)) k
     ∙ sym (run-onward rules st u us r)
 
 -- the tokens of a table whose rows are these tokens

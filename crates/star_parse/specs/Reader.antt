@@ -24,12 +24,15 @@ sortNumber Sort.loop = 4
 sortNumber Sort.stop = 5
 sortNumber Sort.name = 6
 sortNumber Sort.value = 7
-sortNumber Sort.global = 12
+
+-- and of the sort of a kind, 12 for `global_`
+unfoldable pub numberOf : (kind : ℕ) → ℕ
+numberOf kind = cond (eqb kind 12) 12 (sortNumber (sortOf kind))
 
 -- the number of the sort of the next token, 0 at the end
 unfoldable pub ahead : List Token → ℕ
 ahead [] = 0
-ahead (t ∷ ts) = sortNumber (sortOf (t .kind))
+ahead (t ∷ ts) = numberOf (t .kind)
 
 -- the number of the sort of the token at a place of a table
 abbrev pub sortAt : (count : ℕ) → List ℕ → (at : ℕ) → ℕ

@@ -3,8 +3,7 @@ ghost use mathlib.Core.Path.{_≡_};
 ghost use mathlib.Core.List.{[], _∷_};
 ghost use Prim.Native.Nat.{_+_, _*_, _≤_};
 ghost use lib.ListN.{length};
-ghost use Rattle.star_grammar.specs.Machine.{sortOf};
-ghost use Rattle.star_parse.specs.Reader.{sortNumber, SortAt, Fresh, Room, Moved, Misplaced, Put};
+ghost use Rattle.star_parse.specs.Reader.{numberOf, SortAt, Fresh, Room, Moved, Misplaced, Put};
 
 // The sorts of tokens: the kind, 7 for every value, and 0 for the end.
 pub const END: u32 = 0;
@@ -62,7 +61,7 @@ pub(crate) fn begin() -> Progress
 
 // The sort of a kind of token.
 fn sort_of(kind: u32) -> u32
-    ensures { λ r. ⌜ r ≡ sortNumber (sortOf kind) ⌝ }
+    ensures { λ r. ⌜ r ≡ numberOf kind ⌝ }
 {
     if kind == GLOBAL {
         GLOBAL

@@ -17,7 +17,7 @@ use Rattle.star_lex.proofs.Parts.{count-by}
 use Rattle.star_lex.proofs.WellFormed.{well-formed-by}
 use Rattle.star_grammar.specs.Tables.{Rows, noRows, rowsOf}
 use Rattle.star_grammar.specs.Reading.{ReadingBy}
-use Rattle.star_grammar.specs.Machine.{sortOf, State, start, go, refuse, step, good, run, walk}
+use Rattle.star_grammar.specs.Machine.{State, start, go, refuse, stepAt, good, run, walk}
 use Rattle.star_grammar.proofs.Walking.{Walks, halted}
 use Rattle.star_unique.specs.Repeat.{nothing, isTaken}
 use Rattle.star_unique.specs.Seen.{takesAll}
@@ -35,7 +35,7 @@ module _ (rules : Rules) where
   taken-begins p t e b = taken-unclean nothing (tokensOnly p) (t .token) [] e (rw map-append at (begins-clean rules (tokensOnly (p ++ (t ∷ []))) b))
 
   pub halted-begins : (n : ℕ) (p : List Placed) (t : Placed) (st : State) (r : Rows) → walk rules start (tokensOnly p) noRows ≡ go st r
-      → step rules st (sortOf (t .token .kind)) r ≡ refuse n → Begins rules (tokensOnly (p ++ (t ∷ []))) → ⊥
+      → stepAt rules st (t .token .kind) r ≡ refuse n → Begins rules (tokensOnly (p ++ (t ∷ []))) → ⊥
   halted-begins n p t st r w k b =
       halted rules start st (tokensOnly p) (t .token) noRows r n w k (rw map-append at (begins-walks rules (tokensOnly (p ++ (t ∷ []))) b))
 

@@ -1,12 +1,10 @@
 -- The number of a refusal after a row that the machine takes: why a step refuses is why the row with the token begins no file, with any names
 -- and with any number of levels.
-use mathlib.Core.Path.{_≡_, refl, sym, ap, _∙_}
-use mathlib.Core.Bool.{Bool, true, false}
+use mathlib.Core.Path.{_≡_, refl, _∙_}
+use mathlib.Core.Bool.{true, false}
 use mathlib.Core.List.{List, [], _∷_, _++_, List·Memᴰ}
 use Prim.Native.Nat.{ℕ, _+_, _≤_}
 use native.Mathlib.Omega.{arith}
-use borrow.Author.Tests.{eqb-true, eqb-false}
-use lib.Dec.{eqb}
 use Rattle.star_lex.specs.Rules.{Rules, atLevels}
 use Rattle.star_lex.specs.Tokens.{Token, Each}
 use Rattle.star_lex.specs.WellFormed.{FormedBy}
@@ -15,26 +13,18 @@ use Rattle.star_lex.proofs.Each.{each-append, each-implies}
 use Rattle.star_lex.proofs.WellFormed.{formed-levels}
 use Rattle.star_lex.proofs.FreshName.{fresh-name-of}
 use Rattle.star_grammar.specs.Tables.{Rows, noRows}
-use Rattle.star_grammar.specs.Machine.{Sort, sortOf, State, start, go, refuse, step, bad, endRun, walk}
-use Rattle.star_grammar.specs.Rest.{Fixed}
-use Rattle.star_grammar.proofs.Sorts.{sort-kind, sort-name}
-use Rattle.star_grammar.proofs.Formed.{formed-fixed, each-fixed}
-use Rattle.star_grammar.proofs.Walking.{walk-step, halted}
+use Rattle.star_grammar.specs.Machine.{Sort, sortOf, State, start, go, refuse, step, stepAt, bad, endRun, walk}
+use Rattle.star_grammar.proofs.Sorts.{sort-name, step-no-global, step-sort, refused-cases}
+use Rattle.star_grammar.proofs.Formed.{each-fixed}
+use Rattle.star_grammar.proofs.Walking.{walk-no-global, walk-step, halted}
 use Rattle.star_grammar.proofs.Limits.{walk-limit, walks-limit}
-use Rattle.star_grammar.proofs.Refusals.{InPacket, Refusal, refusal, global-refused, packet-name, EndRefusal, end-refusal}
+use Rattle.star_grammar.proofs.Refusals.{InPacket, Refusal, refusal, packet-name, EndRefusal, end-refusal}
 use Rattle.star_grammar.proofs.Marks.{marks, walk-marked, packet-marked, Outside, outside}
 use Rattle.star_unique.specs.Repeat.{Taken, isTaken}
 use Rattle.star_unique.proofs.Names.{other-taken}
 use Rattle.star_read.specs.Demands.{Usable, BeginsShape, ValueSince, NoName, NumberAt, NumberAtEnd}
 use Rattle.star_read.proofs.Begin.{shape-walks, walks-shape}
-use Rattle.star_read.proofs.Since.{since-marks, marks-since}
-
-global-sort : sortOf 12 ≡ Sort.global
-unfolding sortOf
-global-sort = refl
-
-sort-global : {rules : Rules} (t : Token) → FormedBy rules t → sortOf (t .kind) ≡ Sort.global → t .kind ≡ 12
-sort-global t h e = let f : Fixed t = formed-fixed h in rw e at (sort-kind (t .kind) (f .least) (f .most))
+use Rattle.star_read.proofs.Since.{Sorted, each-sorted, since-marks, marks-since}
 
 -- a name or code is no `global_`
 pub taken-no-global : (s : Taken) (t : Token) → isTaken s t ≡ true → t .kind ≡ 12 → ⊥
@@ -43,14 +33,17 @@ taken-no-global s t e k = impossible (cc (other-taken s t (λ q. omega arith) (�
 module _ (rules : Rules) (usable : Usable rules) (p : List Token) (formed : Each (FormedBy rules) p) (st : State) (r : Rows) (w : walk rules start p noRows ≡ go st r) where
   no-name : InPacket st → NoName rules p
   no-name h x n b =
-      halted rules start st p x noRows r 10 w (ap (λ k. step rules st k r) (sort-name x n) ∙ packet-name rules st r h) (shape-walks rules (p ++ (x ∷ [])) b)
+      halted rules start st p x noRows r 10 w (step-sort rules st (x .kind) r Sort.name (sort-name x n) ∙ packet-name rules st r h) (shape-walks rules (p ++ (x ∷ [])) b)
+
+  sorted : Each Sorted p
+  sorted = each-sorted p (each-fixed rules p formed) (walk-no-global rules p start st noRows r w)
 
   value-since : InPacket st → ValueSince p
-  value-since h = marks-since p (each-fixed rules p formed) (packet-marked st (marks false p) h (walk-marked rules start st p noRows r false w refl))
+  value-since h = marks-since p sorted (packet-marked st (marks false p) h (walk-marked rules start st p noRows r false w refl))
 
   -- after a token of this kind a file may go on
   goes-on : (limit : ℕ) → rules .levels ≤ limit → (t : Token) → FormedBy rules t → (s : State) (u : Rows)
-      → step (atLevels rules limit) st (sortOf (t .kind)) r ≡ go s u → BeginsShape (atLevels rules limit) (p ++ (t ∷ []))
+      → stepAt (atLevels rules limit) st (t .kind) r ≡ go s u → BeginsShape (atLevels rules limit) (p ++ (t ∷ []))
   goes-on limit l t h s u e =
       walks-shape (atLevels rules limit) (record { some-level = omega (arith, usable .some-level); long-names = usable .long-names }) (p ++ (t ∷ []))
       (each-implies (FormedBy rules) (FormedBy (atLevels rules limit)) (λ x. formed-levels limit) (p ++ (t ∷ []))
@@ -63,7 +56,7 @@ module _ (rules : Rules) (usable : Usable rules) (p : List Token) (formed : Each
       at : Outside st → ⊥
       at (Outside.valueless f) =
           let a : marks false p ≡ false = f (marks false p) (walk-marked rules start st p noRows r false w refl) in
-          let b : marks false p ≡ true = since-marks p (each-fixed rules p formed) v in
+          let b : marks false p ≡ true = since-marks p sorted v in
           impossible cc
       at (Outside.nameable f) =
           let x : (x : List ℕ) × FormedBy rules (record { kind = 6; content = x }) × (List·Memᴰ x [] → ⊥)
@@ -71,7 +64,7 @@ module _ (rules : Rules) (usable : Usable rules) (p : List Token) (formed : Each
           let t : Token = record { kind = 6; content = x .0 } in
           let g : (s : State) × (u : Rows) × (step rules st Sort.name r ≡ go s u) = f rules r in
           n t (record { kind6 = refl })
-          (goes-on (rules .levels) (omega arith) t (x .1) (g .0) (g .1) (ap (λ k. step rules st k r) (sort-name t (record { kind6 = refl })) ∙ g .2))
+          (goes-on (rules .levels) (omega arith) t (x .1) (g .0) (g .1) (step-sort rules st 6 r Sort.name (sort-name t (record { kind6 = refl })) ∙ g .2))
 
   pub number-end : (n i : ℕ) → endRun st r ≡ bad n i → NumberAtEnd rules p n
   number-end n i e = at (end-refusal st r n i e)
@@ -81,33 +74,26 @@ module _ (rules : Rules) (usable : Usable rules) (p : List Token) (formed : Each
       at (EndRefusal.other h) = NumberAtEnd.other (outside-packet h)
 
   module _ (t : Token) (h : FormedBy rules t) where
-    -- a step that no number of levels takes
-    never : (m : ℕ) → ((l : ℕ) → step (atLevels rules l) st (sortOf (t .kind)) r ≡ refuse m) → (limit : ℕ) → BeginsShape (atLevels rules limit) (p ++ (t ∷ [])) → ⊥
-    never m f limit b =
-        halted (atLevels rules (limit + rules .levels)) start st p t noRows r m (walk-limit rules (limit + rules .levels) (omega arith) start st p noRows r w) (f (limit + rules .levels))
+    -- a step at a sort that no number of levels takes
+    never : (t .kind ≡ 12 → ⊥) → (m : ℕ) → ((l : ℕ) → step (atLevels rules l) st (sortOf (t .kind)) r ≡ refuse m)
+        → (limit : ℕ) → BeginsShape (atLevels rules limit) (p ++ (t ∷ [])) → ⊥
+    never k m f limit b =
+        halted (atLevels rules (limit + rules .levels)) start st p t noRows r m (walk-limit rules (limit + rules .levels) (omega arith) start st p noRows r w)
+        (step-no-global (atLevels rules (limit + rules .levels)) st (t .kind) r k ∙ f (limit + rules .levels))
         (walks-limit (atLevels rules limit) (limit + rules .levels) (omega arith) start (p ++ (t ∷ [])) noRows (shape-walks (atLevels rules limit) (p ++ (t ∷ [])) b))
 
-    number-of : (t .kind ≡ 12 → ⊥) → (n : ℕ) → step rules st (sortOf (t .kind)) r ≡ refuse n → Refusal rules st (sortOf (t .kind)) r n → NumberAt rules p t n
-    number-of k n e (Refusal.global g) = absurd (k (sort-global t h g))
+    number-of : (t .kind ≡ 12 → ⊥) → (n : ℕ) → stepAt rules st (t .kind) r ≡ refuse n → Refusal rules st (sortOf (t .kind)) r n → NumberAt rules p t n
     number-of k n e (Refusal.deep more l s u g) =
-        NumberAt.deep k (λ b. halted rules start st p t noRows r 11 w e (shape-walks rules (p ++ (t ∷ [])) b)) more (goes-on more l t h s u g)
-    number-of k n e (Refusal.packet i f) = NumberAt.packet k (never 10 f) (value-since i) (no-name i)
-    number-of k n e (Refusal.other i f) = NumberAt.other k (never 8 f) (outside-packet i)
+        NumberAt.deep k (λ b. halted rules start st p t noRows r 11 w e (shape-walks rules (p ++ (t ∷ [])) b)) more
+        (goes-on more l t h s u (step-no-global (atLevels rules more) st (t .kind) r k ∙ g))
+    number-of k n e (Refusal.packet i f) = NumberAt.packet k (never k 10 f) (value-since i) (no-name i)
+    number-of k n e (Refusal.other i f) = NumberAt.other k (never k 8 f) (outside-packet i)
 
     -- `global_` before all others
-    number-global : (n : ℕ) → t .kind ≡ 12 → step rules st (sortOf (t .kind)) r ≡ refuse n → NumberAt rules p t n
-    number-global n k e =
-        let d : refuse 12 ≡ refuse n = sym (global-refused rules st r) ∙ ap (λ s. step rules st s r) (sym global-sort ∙ ap sortOf (sym k)) ∙ e in
-        let m : 12 ≡ n = cc in
-        let g : NumberAt rules p t 12 = NumberAt.global k in
-        rw m at g
-
-    pub number-token : (n : ℕ) → step rules st (sortOf (t .kind)) r ≡ refuse n → NumberAt rules p t n
-    number-token n e = at (eqb (t .kind) 12) refl
-      where
-        at : (b : Bool) → eqb (t .kind) 12 ≡ b → NumberAt rules p t n
-        at true d = number-global n (eqb-true (t .kind) 12 d) e
-        at false d = number-of (eqb-false (t .kind) 12 d) n e (refusal rules st (sortOf (t .kind)) r n e)
+    pub number-token : (n : ℕ) → stepAt rules st (t .kind) r ≡ refuse n → NumberAt rules p t n
+    number-token n e =
+        refused-cases (NumberAt rules p t) rules st (t .kind) r n e NumberAt.global
+        (λ k q. number-of k n e (refusal rules st (sortOf (t .kind)) r n q))
 
 -- the numbers exclude one another
 pub numbers-exclude : {rules : Rules} {p : List Token} {t : Token} {m n : ℕ} → NumberAt rules p t m → NumberAt rules p t n → m ≡ n

@@ -14,6 +14,14 @@ use Rattle.star_grammar.proofs.Sorts.{KindOf, sort-kind, sort-value}
 use Rattle.star_grammar.proofs.Marks.{mark, marks}
 use Rattle.star_read.specs.Demands.{ValueSince}
 
+-- a token of a kind of its sort: one as files have them, and no `global_`
+abbrev pub Sorted : Token → Type 0
+Sorted t = KindOf (t .kind) (sortOf (t .kind))
+
+pub each-sorted : (ts : List Token) → Each Fixed ts → Each (λ t. t .kind ≡ 12 → ⊥) ts → Each Sorted ts
+each-sorted [] f o = tt
+each-sorted (t ∷ ts) f o = (sort-kind (t .kind) (f .0 .least) (f .0 .most) (o .0), each-sorted ts (f .1) (o .1))
+
 abbrev NotName : Token → Type 0
 NotName t = t .kind ≡ 6 → ⊥
 
@@ -32,19 +40,17 @@ mark-stays n Sort.loop e a b = absurd (b e)
 mark-stays n Sort.stop e a b = refl
 mark-stays n Sort.name e a b = absurd (a e)
 mark-stays n Sort.value e a b = refl
-mark-stays n Sort.global e a b = refl
 
-marks-stay : (ts : List Token) → Each Fixed ts → Each NotName ts → Each NotLoop ts → marks true ts ≡ true
+marks-stay : (ts : List Token) → Each Sorted ts → Each NotName ts → Each NotLoop ts → marks true ts ≡ true
 marks-stay [] f a b = refl
 marks-stay (t ∷ ts) f a b =
-    ap (λ c. marks c ts) (mark-stays (t .kind) (sortOf (t .kind)) (sort-kind (t .kind) (f .0 .least) (f .0 .most)) (a .0) (b .0))
-    ∙ marks-stay ts (f .1) (a .1) (b .1)
+    ap (λ c. marks c ts) (mark-stays (t .kind) (sortOf (t .kind)) (f .0) (a .0) (b .0)) ∙ marks-stay ts (f .1) (a .1) (b .1)
 
-pub since-marks : (p : List Token) → Each Fixed p → ValueSince p → marks false p ≡ true
+pub since-marks : (p : List Token) → Each Sorted p → ValueSince p → marks false p ≡ true
 since-marks p f v =
     ap (marks false) (v .is) ∙ marks-append false (v .before) (v .value ∷ v .since)
-    ∙ ap (λ k. marks (mark k (marks false (v .before))) (v .since)) (sort-value (v .value) (v .is-value))
-    ∙ marks-stay (v .since) (each-append Fixed (v .before) (v .value ∷ v .since) .0 (rw (v .is) at f) .1 .1) (v .no-name) (v .no-loop)
+    ∙ ap (λ k. marks (mark k (marks false (v .before))) (v .since)) (sort-value (v .value) (v .is-value) .sort)
+    ∙ marks-stay (v .since) (each-append Sorted (v .before) (v .value ∷ v .since) .0 (rw (v .is) at f) .1 .1) (v .no-name) (v .no-loop)
 
 -- where the mark comes from: from before the tokens, which have no name and no `loop_`, or from a value among them
 data From (b : Bool) (p : List Token) : Type 0 where
@@ -72,14 +78,12 @@ from-later b t p Sort.stop h (From.still e n l) = From.still e ((λ q. omega ari
 from-later b t p Sort.name h (From.still e n l) = impossible cc
 from-later b t p Sort.value h (From.still e n l) =
     From.since (record { before = []; value = t; since = p; is = refl; is-value = record { low = h .0; high = h .1 }; no-name = n; no-loop = l })
-from-later b t p Sort.global h (From.still e n l) = From.still e ((λ q. omega arith), n) ((λ q. omega arith), l)
 
-marks-from : (b : Bool) (p : List Token) → Each Fixed p → marks b p ≡ true → From b p
+marks-from : (b : Bool) (p : List Token) → Each Sorted p → marks b p ≡ true → From b p
 marks-from b [] f e = From.still e tt tt
-marks-from b (t ∷ p) f e =
-    from-later b t p (sortOf (t .kind)) (sort-kind (t .kind) (f .0 .least) (f .0 .most)) (marks-from (mark (sortOf (t .kind)) b) p (f .1) e)
+marks-from b (t ∷ p) f e = from-later b t p (sortOf (t .kind)) (f .0) (marks-from (mark (sortOf (t .kind)) b) p (f .1) e)
 
-pub marks-since : (p : List Token) → Each Fixed p → marks false p ≡ true → ValueSince p
+pub marks-since : (p : List Token) → Each Sorted p → marks false p ≡ true → ValueSince p
 marks-since p f e = at (marks-from false p f e)
   where
     at : From false p → ValueSince p

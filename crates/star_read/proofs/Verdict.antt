@@ -14,7 +14,7 @@ use Rattle.star_lex.specs.Rules.{Rules}
 use Rattle.star_lex.specs.Tokens.{Token, Placed}
 use Rattle.star_lex.proofs.Cases.{impossible}
 use Rattle.star_grammar.specs.Tables.{Rows, noRows}
-use Rattle.star_grammar.specs.Machine.{sortOf, State, start, go, refuse, step, Run, bad, good, endRun, run, walk}
+use Rattle.star_grammar.specs.Machine.{State, start, go, refuse, stepAt, Run, bad, good, endRun, run, walk}
 use Rattle.star_grammar.proofs.Passing.{walk-length, end-passes}
 use Rattle.star_grammar.proofs.Walking.{Walks, walks-first, good-walks, Halts, bad-halts}
 use Rattle.star_unique.specs.Repeat.{nothing, isTaken, firstRepeat}
@@ -29,7 +29,7 @@ pub data Verdict (rules : Rules) (ps : List Placed) (size : ℕ) : ReadOutcome �
       → Walks rules start (tokensOnly p ++ (t .token ∷ [])) noRows → isTaken (takesAll nothing (tokensOnly p)) (t .token) ≡ true
       → Verdict rules ps size (refused 9 place)
   halts : (n place : ℕ) (p : List Placed) (t : Placed) (q : List Placed) → ps ≡ p ++ (t ∷ q) → place ≡ t .at → Clean nothing (tokensOnly p)
-      → (st : State) (r : Rows) → walk rules start (tokensOnly p) noRows ≡ go st r → step rules st (sortOf (t .token .kind)) r ≡ refuse n
+      → (st : State) (r : Rows) → walk rules start (tokensOnly p) noRows ≡ go st r → stepAt rules st (t .token .kind) r ≡ refuse n
       → Verdict rules ps size (refused n place)
   ends : (n place i : ℕ) → place ≡ size → Clean nothing (tokensOnly ps)
       → (st : State) (r : Rows) → walk rules start (tokensOnly ps) noRows ≡ go st r → endRun st r ≡ bad n i → Verdict rules ps size (refused n place)
