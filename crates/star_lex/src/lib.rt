@@ -202,11 +202,11 @@ pub fn read_tokens(file: &[u8], table: &mut [u32]) -> Tokens
     if star_text::MOST_BYTES < file.len() {
         return refuse(table, 1, 0);
     }
-    let classes = star_text::class_table();
-    let at = star_text::first_refused(&classes, file);
+    let at = star_text::first_refused(file);
     if at < file.len() {
         return refuse(table, 2, at as u32);
     }
+    let classes = star_text::class_table();
     let found = split(&classes, file, table);
     if found.refusal != 0 {
         return refuse(table, found.refusal, found.place);

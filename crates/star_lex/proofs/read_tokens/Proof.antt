@@ -4,8 +4,6 @@ use Prim.Native.Nat.{_*_}
 use native.Mathlib.Omega.{arith}
 use borrow.Author.Needs.{needs}
 use lib.ListN.{length, replicate}
-use Rattle.star_text.specs.Bytes.{firstRefused}
-use Rattle.star_text.proofs.Classes.{first-refused-is}
 use Rattle.star_rows.specs.Rows.{clearedFrom}
 use Rattle.star_rows.proofs.Stored.{stored-holding}
 use Rattle.star_lex.specs.Tokens.{tokenRow}
@@ -29,20 +27,8 @@ returns c =
     let t = tokens-too-long (start .args .file .now) (length (start .args .table .now)) (c .before .before .before .before .if1 .taken) in
     (c .before .before .refuse .ensures .0 ∙ sym (ap answerOf t), c .before .before .refuse .ensures .1 ∙ sym (ap (λ s. tableOf s (length (start .args .table .now))) t))
 
-class-table-requires : tie.Need-class-table-requires
-class-table-requires c κs = search needs
-
 first-refused-requires : tie.Need-first-refused-requires
 first-refused-requires c κs = search needs
-
-abbrev start : tie.After-first-refused → tie.Start
-start c = c .before .before .before .before .before .before
-
-first-bad : (c : tie.After-first-refused) → c .first-refused .result ≡ firstRefused (start c .args .file .now)
-first-bad c =
-    let at-shared-slice-known = c .before .before .before .before .before in
-    c .first-refused .ensures
-    ∙ first-refused-is (c .before .before .class-table .ensures) _ (λ i. omega (arith, at-shared-slice-known .shared-slice-known .given i))
 
 cast-refuse : tie.Need-cast-refuse
 cast-refuse c = search needs
@@ -56,12 +42,17 @@ same-length-2 c = search needs
 returns-2 : tie.Need-returns-2
 unfolding tableOf fitting
 returns-2 c =
-    let at-if1 = c .before .before .before .before .before .before .before .before in
+    let at-first-refused = c .before .before .before .before .before in
+    let at-if1 = at-first-refused .before in
     let start = at-if1 .before .before .before in
-    let t = tokens-refused-byte (start .args .file .now) (length (start .args .table .now)) (at-if1 .if1 .left) (rw (first-bad (c .before .before .before .before .before)) at (c .before .before .before .before .if2 .taken)) in (
-      c .before .before .refuse2 .ensures .0 ∙ ap (λ n. answerOf (refused 2 n)) (first-bad (c .before .before .before .before .before)) ∙ sym (ap answerOf t),
+    let first = at-first-refused .first-refused .ensures in
+    let t = tokens-refused-byte (start .args .file .now) (length (start .args .table .now)) (at-if1 .if1 .left) (rw first at (c .before .before .before .before .if2 .taken)) in (
+      c .before .before .refuse2 .ensures .0 ∙ ap (λ n. answerOf (refused 2 n)) first ∙ sym (ap answerOf t),
       c .before .before .refuse2 .ensures .1 ∙ sym (ap (λ s. tableOf s (length (start .args .table .now))) t),
     )
+
+class-table-requires : tie.Need-class-table-requires
+class-table-requires c κs = search needs
 
 split-requires : tie.Need-split-requires
 split-requires c κs = search needs
@@ -76,10 +67,10 @@ returns-3 : tie.Need-returns-3
 unfolding tableOf fitting
 returns-3 c =
     let at-split = c .before .before .before .before .before .before .before .before in
-    let at-if2 = at-split .before .before .before in
-    let at-if1 = at-if2 .before .before .before .before in
+    let at-if2 = at-split .before .before .before .before in
+    let at-if1 = at-if2 .before .before in
     let start = at-if1 .before .before .before in
-    let t = tokens-split (start .args .file .now) (length (start .args .table .now)) (at-if1 .if1 .left) (rw (first-bad (c .before .before .before .before .before .before .before .before .before .before .before .before)) at (at-if2 .if2 .left)) ∙ ap (fitting (length (start .args .table .now))) (answer-refused _ (at-split .split .result) (at-split .split .ensures .0) (c .before .before .before .before .if3 .taken)) in (
+    let t = tokens-split (start .args .file .now) (length (start .args .table .now)) (at-if1 .if1 .left) (rw (at-if2 .before .first-refused .ensures) at (at-if2 .if2 .left)) ∙ ap (fitting (length (start .args .table .now))) (answer-refused _ (at-split .split .result) (at-split .split .ensures .0) (c .before .before .before .before .if3 .taken)) in (
       c .before .before .refuse3 .ensures .0 ∙ sym (ap answerOf t),
       c .before .before .refuse3 .ensures .1 ∙ ap (λ n. replicate n 0) (at-split .split .kept .1 .1 .0) ∙ sym (ap (λ s. tableOf s (length (start .args .table .now))) t),
     )
@@ -98,12 +89,12 @@ unfolding tableOf fitting
 returns-4 c =
     let at-if3 = c .before .before .before .before .before .before in
     let at-split = at-if3 .before .before .before .before in
-    let at-if2 = at-split .before .before .before in
-    let at-if1 = at-if2 .before .before .before .before in
+    let at-if2 = at-split .before .before .before .before in
+    let at-if1 = at-if2 .before .before in
     let start = at-if1 .before .before .before in
     let (ps, q, r) = answer-accepted (start .args .file .now) (at-split .split .result) (at-split .split .ensures .0) (at-if3 .if3 .left) in
     let k : length (at-split .split .last .1 .1 .0) ≡ (length (start .args .table .now)) = at-split .split .kept .1 .1 .0 in
-    let t = tokens-split (start .args .file .now) (length (start .args .table .now)) (at-if1 .if1 .left) (rw (first-bad (c .before .before .before .before .before .before .before .before .before .before .before .before .before .before)) at (at-if2 .if2 .left)) ∙ ap (fitting (length (start .args .table .now))) q ∙ fitting-full (length (start .args .table .now)) ps (omega (arith, c .before .before .before .before .if4 .taken)) in (
+    let t = tokens-split (start .args .file .now) (length (start .args .table .now)) (at-if1 .if1 .left) (rw (at-if2 .before .first-refused .ensures) at (at-if2 .if2 .left)) ∙ ap (fitting (length (start .args .table .now))) q ∙ fitting-full (length (start .args .table .now)) ps (omega (arith, c .before .before .before .before .if4 .taken)) in (
       c .before .before .refuse4 .ensures .0 ∙ sym (ap answerOf t),
       c .before .before .refuse4 .ensures .1 ∙ ap (λ n. replicate n 0) k ∙ sym (ap (λ s. tableOf s (length (start .args .table .now))) t),
     )
@@ -123,12 +114,12 @@ returns-5 c =
     let at-if4 = c .before .before .before .before in
     let at-if3 = at-if4 .before .before in
     let at-split = at-if3 .before .before .before .before in
-    let at-if2 = at-split .before .before .before in
-    let at-if1 = at-if2 .before .before .before .before in
+    let at-if2 = at-split .before .before .before .before in
+    let at-if1 = at-if2 .before .before in
     let start = at-if1 .before .before .before in
     let (ps, q, r) = answer-accepted (start .args .file .now) (at-split .split .result) (at-split .split .ensures .0) (at-if3 .if3 .left) in
     let k : length (at-split .split .last .1 .1 .0) ≡ (length (start .args .table .now)) = at-split .split .kept .1 .1 .0 in
-    let t = tokens-split (start .args .file .now) (length (start .args .table .now)) (at-if1 .if1 .left) (rw (first-bad (c .before .before .before .before .before .before .before .before .before .before .before .before .before .before)) at (at-if2 .if2 .left)) ∙ ap (fitting (length (start .args .table .now))) q ∙ fitting-room (length (start .args .table .now)) ps (omega (arith, at-if4 .if4 .left)) in (
+    let t = tokens-split (start .args .file .now) (length (start .args .table .now)) (at-if1 .if1 .left) (rw (at-if2 .before .first-refused .ensures) at (at-if2 .if2 .left)) ∙ ap (fitting (length (start .args .table .now))) q ∙ fitting-room (length (start .args .table .now)) ps (omega (arith, at-if4 .if4 .left)) in (
       at-split .split .ensures .0 ∙ ap answerOf q ∙ sym (ap answerOf t),
       c .before .before .clear-from .ensures
           ∙ ap (λ n. clearedFrom (n * 3) (at-split .split .last .1 .1 .0)) r
@@ -144,12 +135,12 @@ read-tokens-spec =
     refuse-requires
     same-length
     returns
-    class-table-requires
     first-refused-requires
     cast-refuse
     refuse-requires-2
     same-length-2
     returns-2
+    class-table-requires
     split-requires
     refuse-requires-3
     same-length-3
