@@ -18,7 +18,7 @@ use Rattle.star_lex.specs.WellFormed.{FormedBy, Ordinary, quotable, bloc
 use Rattle.star_text.proofs.Bytes.{eqb-comm, allowed-printable, all-head, all-tail, all-append, run-append-drop, all-printable-run}
 use Rattle.star_lex.proofs.Cases.{impossible, cond-cases, either-cases}
 use Rattle.star_lex.proofs.Words.{after-append}
-use Rattle.star_lex.proofs.Delimited.{quoted-some, field-some}
+use Rattle.star_lex.proofs.Delimited.{quoted-some, field-some, fieldLexeme-some}
 
 -- a word's token: the word's bytes, with nothing after its content
 record WordOf (rules : Rules) (more : ℕ) (w : List ℕ) (m : ℕ) (t : Token) : Type 0 where
@@ -144,7 +144,7 @@ fieldLexeme-token rules b bs more t n a e = go (field bs) refl e
     go : (o : Option (List ℕ)) → field bs ≡ o → fieldLexeme o bs ≡ token more t → TokenAt rules b bs more t
     go none q h = impossible cc
     go (some c) q h =
-        cond-cases (whiteNext (drop (length c + 2) bs)) _ _ _ h
+        cond-cases (whiteNext (drop (length c + 2) bs)) _ _ _ (sym (fieldLexeme-some bs c q) ∙ h)
         (λ w g.
         let (z, rest, s, u, l) = field-some bs c q in
         let r : record { kind = 11; content = c } ≡ t = cc in

@@ -15,11 +15,11 @@ use lib.Seq.{drop-append-add}
 use Rattle.star_text.specs.Bytes.{isBlank, isTerminate, isWhite, isPrintable, isAllowed, all, firstRefused}
 use Rattle.star_lex.specs.Rules.{Rules, today}
 use Rattle.star_lex.specs.Tokens.{Token, Placed, Each, opening, dataWord, saveWord, loopWord, stopWord, globalWord}
-use Rattle.star_lex.specs.Split.{token, accepted, after, starts, whiteNext, quoted, limited, blockWord, frameWord, alone, nameWord, referenceWord, either, wordLexeme, wordFrom, quotedLexeme, fieldLexeme, lexeme, moreOf, before, enter, split, tokensBy, tokensOf}
+use Rattle.star_lex.specs.Split.{token, accepted, after, starts, whiteNext, quoted, field, limited, blockWord, frameWord, alone, nameWord, referenceWord, either, wordLexeme, wordFrom, quotedLexeme, lexeme, moreOf, before, enter, split, tokensBy, tokensOf}
 use Rattle.star_lex.specs.Plain.{closing, indent, plainToken, plainOf}
 use Rattle.star_lex.specs.WellFormed.{FormedBy, WellFormed, Ordinary, quotable, fieldable, block, frame, frameEnd, loop, stop, name, word, reference, single, double, text, global}
 use Rattle.star_text.proofs.Bytes.{eqb-comm, printable-not-white, printable-allowed, not-white-not-terminate, all-head, all-tail, all-append, all-cond, all-implies, run-append, run-all}
-use Rattle.star_lex.proofs.Delimited.{quoted-append, field-append}
+use Rattle.star_lex.proofs.Delimited.{quoted-append, field-append, fieldLexeme-some}
 
 -- the split goes over bytes that belong to a lexeme already read
 pub split-skip : (rules : Rules) (xs rest : List ℕ) (at : ℕ) → split rules (length xs) false at (xs ++ rest) ≡ split rules 0 false (at + length xs) rest
@@ -162,13 +162,15 @@ reads-double rules c e = record {
 }
 
 reads-text : (rules : Rules) (c : List ℕ) → fieldable c ≡ true → Reads rules true (record { kind = 11; content = c })
-unfolding opening closing lexeme fieldLexeme whiteNext isWhite isBlank isTerminate
+unfolding opening closing lexeme whiteNext isWhite isBlank isTerminate
 reads-text rules c e = record {
   first = 59;
   others = c ++ 10 ∷ 59 ∷ [];
   bytes = refl;
   stays = refl;
-  reads = λ rest. rw (append-assoc, field-append c 10 (10 ∷ rest) refl e, drop-append-add c (10 ∷ 59 ∷ 10 ∷ rest) 2, length-append);
+  reads = λ rest.
+      let f : field (c ++ 10 ∷ 59 ∷ 10 ∷ rest) ≡ some c = field-append c 10 (10 ∷ rest) refl e in
+      rw (append-assoc, f, fieldLexeme-some (c ++ 10 ∷ 59 ∷ 10 ∷ rest) c f, drop-append-add c (10 ∷ 59 ∷ 10 ∷ rest) 2, length-append);
 }
 
 -- a token's bytes stand at the line's start or after one blank, and are read there

@@ -20,7 +20,7 @@ use Rattle.star_lex.specs.Split.{Lexeme, gap, token, faulty, Split, refu
 use Rattle.star_lex.specs.Found.{foundAt}
 use Rattle.star_lex.specs.declared.Found.the-variants.{Gap, Token as FoundToken, Fault}
 use Rattle.star_lex.proofs.Cases.{impossible}
-use Rattle.star_lex.proofs.Delimited.{quoted-some, field-some}
+use Rattle.star_lex.proofs.Delimited.{quoted-some, field-some, fieldLexeme-some}
 use Rattle.star_lex.proofs.Lexing.{Shaped, word-shaped}
 
 -- bytes that belong to a lexeme already read are passed over
@@ -93,7 +93,8 @@ field-within bs none e = (omega arith, omega arith)
 field-within bs (some c) e =
     let (z, rest, s, u, v) = field-some bs c e in
     let n : length bs ≡ length c + suc (suc (length rest)) = simp length-append at (ap length s) in
-    cond-within (length bs) (whiteNext (drop (length c + 2) bs)) _ _ (λ q. (omega arith, omega arith)) (λ q. (omega arith, omega arith))
+    rw (fieldLexeme-some bs c e)
+    (cond-within (length bs) (whiteNext (drop (length c + 2) bs)) _ _ (λ q. (omega arith, omega arith)) (λ q. (omega arith, omega arith)))
 
 quoted-within : (q kind : ℕ) (bs : List ℕ) (o : Option (List ℕ)) → isWhite q ≡ false → length (opening kind) ≡ 1 → quoted q bs ≡ o
     → Within (length bs) (quotedLexeme kind o)
