@@ -16,7 +16,7 @@ use Rattle.star_text.specs.Bytes.{isBlank, isTerminate, isWhite, isPrintable, i
 use Rattle.star_lex.specs.Rules.{Rules, today}
 use Rattle.star_lex.specs.Tokens.{Token, Placed, Each, opening, dataWord, saveWord, loopWord, stopWord, globalWord}
 use Rattle.star_lex.specs.Split.{token, accepted, after, starts, whiteNext, quoted, field, limited, blockWord, frameWord, alone, nameWord, referenceWord, either, wordLexeme, wordFrom, quotedLexeme, lexeme, moreOf, before, enter, split, tokensBy, tokensOf}
-use Rattle.star_lex.specs.Plain.{closing, indent, plainToken, plainOf}
+use Rattle.star_lex.specs.Plain.{newline, closing, indent, plainToken, plainOf}
 use Rattle.star_lex.specs.WellFormed.{FormedBy, WellFormed, Ordinary, quotable, fieldable, block, frame, frameEnd, loop, stop, name, word, reference, single, double, text, global}
 use Rattle.star_text.proofs.Bytes.{eqb-comm, printable-not-white, printable-allowed, not-white-not-terminate, all-head, all-tail, all-append, all-cond, all-implies, run-append, run-all}
 use Rattle.star_lex.proofs.Delimited.{quoted-append, field-append, fieldLexeme-some}
@@ -29,7 +29,7 @@ split-skip rules (x ∷ xs) rest at = rw (add-suc, ← suc-add) (split-skip rule
 
 -- a token with its delimiters
 abbrev body : Token → List ℕ
-body t = opening (t .kind) ++ (t .content ++ closing (t .kind))
+body t = opening (t .kind) ++ (t .content ++ closing (t .kind) (t .content))
 
 -- at the first byte of a token before a line end, the split finds that token
 record Reads (rules : Rules) (line : Bool) (t : Token) : Type 0 where
@@ -162,7 +162,7 @@ reads-double rules c e = record {
 }
 
 reads-text : (rules : Rules) (c : List ℕ) → fieldable c ≡ true → Reads rules true (record { kind = 11; content = c })
-unfolding opening closing lexeme whiteNext isWhite isBlank isTerminate
+unfolding opening closing newline lexeme whiteNext isWhite isBlank isTerminate
 reads-text rules c e = record {
   first = 59;
   others = c ++ 10 ∷ 59 ∷ [];
@@ -245,9 +245,9 @@ allowed-opening : (kind : ℕ) → all isAllowed (opening kind) ≡ true
 unfolding opening all isAllowed dataWord saveWord
 allowed-opening kind = search (all-cond isAllowed) depth 8
 
-allowed-closing : (kind : ℕ) → all isAllowed (closing kind) ≡ true
-unfolding closing all isAllowed
-allowed-closing kind = search (all-cond isAllowed) depth 8
+allowed-closing : (kind : ℕ) (content : List ℕ) → all isAllowed (closing kind content) ≡ true
+unfolding closing newline all isAllowed
+allowed-closing kind content = search (all-cond isAllowed) depth 8
 
 allowed-indent : (t : Token) → all isAllowed (indent t) ≡ true
 unfolding indent all isAllowed
@@ -255,7 +255,7 @@ allowed-indent t = search (all-cond isAllowed) depth 8
 
 allowed-plain : (rules : Rules) {t : Token} → FormedBy rules t → all isAllowed (plainToken t) ≡ true
 unfolding plainToken all isAllowed
-allowed-plain rules {t} w = simp (all-append isAllowed, allowed-indent t, allowed-opening (t .kind), allowed-content rules w, allowed-closing (t .kind))
+allowed-plain rules {t} w = simp (all-append isAllowed, allowed-indent t, allowed-opening (t .kind), allowed-content rules w, allowed-closing (t .kind) (t .content))
 
 allowed-plainOf : (rules : Rules) (ts : List Token) → Each (FormedBy rules) ts → all isAllowed (plainOf ts) ≡ true
 unfolding plainOf flatMap all
