@@ -8,6 +8,7 @@ use borrow.Author.Tests.{lt-ltb, le-ltb, le-leb, lt-leb, leb-true, ltb-true}
 use lib.Dec.{leb, ltb}
 use lib.ListN.{length}
 use Rattle.star_text.specs.Bytes.{mostBytes, firstRefused}
+use Rattle.star_rows.specs.Widths.{tokenWidth}
 use Rattle.star_rows.proofs.Stored.{room}
 use Rattle.star_lex.specs.Rules.{Rules, today}
 use Rattle.star_lex.specs.Tokens.{Placed}
@@ -59,13 +60,13 @@ answer-accepted file r e z = go (split today 0 true 0 file) refl e
     go (accepted ps) q d = (ps, q, ap (λ t. t .count) d)
 
 -- 7 for table 1, by its number of rows
-pub fitting-full : (words : ℕ) (ps : List Placed) → words / 3 < length ps → fitting words (accepted ps) ≡ refused 7 1
+pub fitting-full : (words : ℕ) (ps : List Placed) → words / tokenWidth < length ps → fitting words (accepted ps) ≡ refused 7 1
 unfolding fitting
-fitting-full words ps h = rw (room 3 (length ps) words (omega arith), lt-leb (length ps) (words / 3) h)
+fitting-full words ps h = rw (room tokenWidth (length ps) words (omega arith), lt-leb (length ps) (words / tokenWidth) h)
 
-pub fitting-room : (words : ℕ) (ps : List Placed) → length ps ≤ words / 3 → fitting words (accepted ps) ≡ accepted ps
+pub fitting-room : (words : ℕ) (ps : List Placed) → length ps ≤ words / tokenWidth → fitting words (accepted ps) ≡ accepted ps
 unfolding fitting
-fitting-room words ps h = rw (room 3 (length ps) words (omega arith), le-leb (length ps) (words / 3) h)
+fitting-room words ps h = rw (room tokenWidth (length ps) words (omega arith), le-leb (length ps) (words / tokenWidth) h)
 
 -- tokens that fit are those of the file
 pub accepted-by : (rules : Rules) (file : List ℕ) (words : ℕ) (ps : List Placed) → tokensInBy rules file words ≡ accepted ps → tokensBy rules file ≡ accepted ps
@@ -75,7 +76,7 @@ accepted-by rules file words ps e =
   where
     fits : (s : Split) → fitting words s ≡ accepted ps → s ≡ accepted ps
     fits (refused n place) h = impossible cc
-    fits (accepted qs) h = cond-cases (leb (length qs * 3) words) _ _ (accepted ps) h (λ d k. k) (λ d k. impossible cc)
+    fits (accepted qs) h = cond-cases (leb (length qs * tokenWidth) words) _ _ (accepted ps) h (λ d k. k) (λ d k. impossible cc)
 
 pub tokens-accepted : (file : List ℕ) (words : ℕ) (ps : List Placed) → tokensIn file words ≡ accepted ps → tokensOf file ≡ accepted ps
 tokens-accepted = accepted-by today
@@ -92,7 +93,7 @@ fitting-number : (file : List ℕ) (words n place : ℕ) (s : Split) → tokensB
 unfolding fitting
 fitting-number file words n place (refused m q) d e z = let k : m ≡ n = cc in tokens-number file m q d (k ∙ z)
 fitting-number file words n place (accepted ps) d e z =
-    cond-cases (leb (length ps * 3) words) _ _ _ e (λ q h. impossible cc) (λ q h. let k : 7 ≡ n = cc in omega arith)
+    cond-cases (leb (length ps * tokenWidth) words) _ _ _ e (λ q h. impossible cc) (λ q h. let k : 7 ≡ n = cc in omega arith)
 
 pub in-number : (file : List ℕ) (words n place : ℕ) → tokensIn file words ≡ refused n place → n ≡ 0 → ⊥
 unfolding tokensInBy
@@ -111,13 +112,13 @@ in-accepted file words r e z = go (tokensIn file words) refl e
     go (refused n place) q d = absurd (in-number file words n place q (sym (ap (λ t. t .refusal) d) ∙ z))
     go (accepted ps) q d = (ps, q, ap (λ t. t .count) d)
 
-fitting-within : (words : ℕ) (s : Split) (ps : List Placed) → fitting words s ≡ accepted ps → length ps * 3 ≤ words
+fitting-within : (words : ℕ) (s : Split) (ps : List Placed) → fitting words s ≡ accepted ps → length ps * tokenWidth ≤ words
 unfolding fitting
 fitting-within words (refused n place) ps e = impossible cc
 fitting-within words (accepted qs) ps e =
-    cond-cases (leb (length qs * 3) words) _ _ _ e (λ q h. let k : qs ≡ ps = cc in rw (← k) (leb-true _ _ q)) (λ q h. impossible cc)
+    cond-cases (leb (length qs * tokenWidth) words) _ _ _ e (λ q h. let k : qs ≡ ps = cc in rw (← k) (leb-true _ _ q)) (λ q h. impossible cc)
 
-pub in-fits : (file : List ℕ) (words : ℕ) (ps : List Placed) → tokensIn file words ≡ accepted ps → (length file ≤ mostBytes) × (length ps * 3 ≤ words)
+pub in-fits : (file : List ℕ) (words : ℕ) (ps : List Placed) → tokensIn file words ≡ accepted ps → (length file ≤ mostBytes) × (length ps * tokenWidth ≤ words)
 unfolding tokensInBy
 in-fits file words ps e =
     cond-cases (leb (length file) mostBytes) _ _ _ e

@@ -10,6 +10,7 @@ use native.Mathlib.Omega.{arith}
 use lib.Dec.{eqb}
 use lib.ListN.{length, getD, drop, length-append, length-drop, drop-of-length-le}
 use lib.Seq.{drop-cons, drop-drop}
+use Rattle.star_rows.specs.Widths.{tokenWidth}
 use Rattle.star_rows.specs.Rows.{putRow, stored}
 use Rattle.star_rows.proofs.Stored.{stored-none, stored-more}
 use Rattle.star_text.specs.Bytes.{isBlank, isTerminate, isWhite, run}
@@ -202,11 +203,11 @@ pub record Progress (file table₀ table : List ℕ) (at count : ℕ) (line : Bo
   pub done : List Placed
   pub so-far : split today 0 true 0 file ≡ allBefore done (split today 0 line at (drop at file))
   pub counted : count ≡ length done
-  pub rows : table ≡ stored 3 tokenRow done table₀
+  pub rows : table ≡ stored tokenWidth tokenRow done table₀
   pub few : count ≤ at
   pub inside : at ≤ length file
 
-pub row-wide : (p : Placed) → length (tokenRow p) ≡ 3
+pub row-wide : (p : Placed) → length (tokenRow p) ≡ tokenWidth
 unfolding tokenRow
 row-wide p = refl
 
@@ -215,7 +216,7 @@ progress-start file table = record {
   done = [];
   so-far = refl;
   counted = refl;
-  rows = stored-none 3 tokenRow row-wide (omega arith) table;
+  rows = stored-none tokenWidth tokenRow row-wide (omega arith) table;
   few = zero-le;
   inside = zero-le;
 }
@@ -276,7 +277,7 @@ module _ (file table₀ table : List ℕ) (at count : ℕ) (line : Bool) (p : Pr
               ap (λ r. putRow r count table) (f .row)
               ∙ ap (λ n. putRow (tokenRow q) n table) (p .counted)
               ∙ ap (putRow (tokenRow q) (length (p .done))) (p .rows)
-              ∙ sym (stored-more 3 tokenRow row-wide (omega arith) (p .done) q table₀);
+              ∙ sym (stored-more tokenWidth tokenRow row-wide (omega arith) (p .done) q table₀);
           few = omega (arith, p .few, f .past);
           inside = omega (arith, w .0, f .past);
         },

@@ -4,6 +4,7 @@ use Prim.Native.Nat.{_*_}
 use native.Mathlib.Omega.{arith}
 use borrow.Author.Needs.{needs}
 use lib.ListN.{length, replicate}
+use Rattle.star_rows.specs.Widths.{tokenWidth}
 use Rattle.star_rows.specs.Rows.{clearedFrom}
 use Rattle.star_rows.proofs.Stored.{stored-holding}
 use Rattle.star_lex.specs.Tokens.{tokenRow}
@@ -122,9 +123,9 @@ returns-5 c =
     let t = tokens-split (start .args .file .now) (length (start .args .table .now)) (at-if1 .if1 .left) (rw (at-if2 .before .first-refused .ensures) at (at-if2 .if2 .left)) ∙ ap (fitting (length (start .args .table .now))) q ∙ fitting-room (length (start .args .table .now)) ps (omega (arith, at-if4 .if4 .left)) in (
       at-split .split .ensures .0 ∙ ap answerOf q ∙ sym (ap answerOf t),
       c .before .before .clear-from .ensures
-          ∙ ap (λ n. clearedFrom (n * 3) (at-split .split .last .1 .1 .0)) r
-          ∙ ap (clearedFrom (length ps * 3)) (at-split .split .ensures .1 ps q)
-          ∙ stored-holding 3 tokenRow row-wide (omega arith) ps (start .args .table .now) (omega (arith, at-if4 .if4 .left))
+          ∙ ap (λ n. clearedFrom (n * tokenWidth) (at-split .split .last .1 .1 .0)) r
+          ∙ ap (clearedFrom (length ps * tokenWidth)) (at-split .split .ensures .1 ps q)
+          ∙ stored-holding tokenWidth tokenRow row-wide (omega arith) ps (start .args .table .now) (omega (arith, at-if4 .if4 .left))
           ∙ sym (ap (λ s. tableOf s (length (start .args .table .now))) t),
     )
 
