@@ -11,7 +11,7 @@ use Rattle.star_text.specs.Bytes.{isTerminate, isWhite, run}
 use Rattle.star_lex.specs.Rules.{Rules, today}
 use Rattle.star_lex.specs.Tokens.{Token, Placed, dataWord, saveWord, loopWord, stopWord, globalWord}
 use Rattle.star_text.specs.Outcome.{accepted}
-use Rattle.star_lex.specs.Split.{Lexeme, gap, token, faulty, after, either, whiteNext, quoted, field, limited, blockWord, frameWord, alone, nameWord, referenceWord, wordLexeme, wordFrom, quotedLexeme, fieldLexeme, lexeme, tokensBy, tokensOf}
+use Rattle.star_lex.specs.Split.{Lexeme, gap, token, faulty, after, either, whiteNext, quoted, closeLength, field, limited, blockWord, frameWord, alone, nameWord, referenceWord, wordLexeme, wordFrom, quotedLexeme, fieldLexeme, lexeme, tokensBy, tokensOf}
 use Rattle.star_lex.proofs.Cases.{impossible, cond-cases}
 use Rattle.star_lex.proofs.Steps.{Steps, ends, within, passes, takes, accepted-steps}
 
@@ -100,8 +100,8 @@ field-white : (o : Option (List ℕ)) (bs : List ℕ) (more : ℕ) (t : Token) �
 unfolding fieldLexeme
 field-white none bs more t e = impossible cc
 field-white (some c) bs more t e =
-    cond-cases (whiteNext (drop (length c + 2) bs)) _ _ (token more t) e
-    (λ k h. let z : length c + 2 ≡ more = cc in rw (← z) k) (λ k h. impossible cc)
+    cond-cases (whiteNext (drop (length c + closeLength (drop (length c) bs)) bs)) _ _ (token more t) e
+    (λ k h. let z : length c + closeLength (drop (length c) bs) ≡ more = cc in rw (← z) k) (λ k h. impossible cc)
 
 string-white : (kind q : ℕ) (bs : List ℕ) (more : ℕ) (t : Token) → quotedLexeme kind (quoted q bs) ≡ token more t → whiteNext (drop more bs) ≡ true
 unfolding quotedLexeme

@@ -17,6 +17,7 @@ use Rattle.star_text.proofs.Run.{run-keeps, run-fails}
 use Rattle.star_lex.specs.Split.{quoted, field, starts, whiteNext}
 use Rattle.star_lex.specs.Found.{endOf}
 use Rattle.star_lex.specs.LineEnd.{LineEnd}
+use Rattle.star_lex.proofs.Delimited.{closes-cons}
 
 module _ (file : List ℕ) (at : ℕ) where
   pub white-in : at < length file → whiteNext (drop at file) ≡ isWhite (getD file at 0)
@@ -68,7 +69,8 @@ module _ (size : ℕ) (file : List ℕ) (at : ℕ) where
       → endOf size at (field (drop at file))
       ≡ cond (isTerminate (getD file at 0) && starts 59 (drop (at + 1) file)) at (endOf size (at + 1) (field (drop (at + 1) file)))
   unfolding field
-  field-at h = rw (drop-cons file at 0 h, end-here, end-cons size at (getD file at 0) (field (drop (suc at) file)), add-one)
+  field-at h =
+      rw (drop-cons file at 0 h, closes-cons (getD file at 0) (drop (suc at) file), end-here, end-cons size at (getD file at 0) (field (drop (suc at) file)), add-one)
 
   pub field-over : length file ≤ at → endOf size at (field (drop at file)) ≡ size
   unfolding field endOf

@@ -1,14 +1,16 @@
 -- Contents between delimiters: `quoted` and `field` stop at the first closing delimiter, so they find a content that holds none, and what
 -- they find holds none. By induction on the bytes.
 use mathlib.Core.Path.{_≡_, refl, sym, _∙_, ap}
-use mathlib.Core.Bool.{true, false, not, _&&_, and-eq-true-iff, true≢false}
+use mathlib.Core.Bool.{Bool, true, false, cond, not, _&&_, and-eq-true-iff, true≢false}
 use mathlib.Core.List.{List, [], _∷_, _++_}
 use mathlib.Core.Option.{some, map-eq-some-iff}
-use Prim.Native.Nat.{ℕ}
+use Prim.Native.Nat.{ℕ, _+_}
 use borrow.Author.Tests.{not-true, eqb-true, eq-eqb, ne-eqb}
-use lib.Dec.{eqb}
+use lib.Dec.{eqb, leb}
+use lib.ListN.{length, drop}
+use lib.Seq.{drop-append-seam}
 use Rattle.star_text.specs.Bytes.{isBlank, isTerminate, isWhite}
-use Rattle.star_lex.specs.Split.{starts, whiteNext, quoted, field}
+use Rattle.star_lex.specs.Split.{token, faulty, starts, whiteNext, quoted, lineEnd, closes, closeLength, field, fieldLexeme}
 use Rattle.star_lex.specs.WellFormed.{quotable, fieldable, startsWhite}
 use Rattle.star_lex.proofs.Cases.{impossible, cond-cases}
 
@@ -35,12 +37,26 @@ unfolding starts
 starts-append [] z rest e = e
 starts-append (b ∷ c) z rest e = refl
 
+-- a byte closes a field where it ends a line and `;` follows
+pub closes-cons : (b : ℕ) (bs : List ℕ) → closes (b ∷ bs) ≡ (isTerminate b && starts 59 bs)
+unfolding closes lineEnd
+closes-cons b bs = go (isTerminate b)
+  where
+    go : (t : Bool) → (leb 1 (cond t 1 0) && starts 59 (drop (cond t 1 0) (b ∷ bs))) ≡ (t && starts 59 bs)
+    go true = refl
+    go false = refl
+
 pub field-append : (c : List ℕ) (z : ℕ) (rest : List ℕ) → isTerminate z ≡ true → fieldable c ≡ true → field (c ++ z ∷ 59 ∷ rest) ≡ some c
 unfolding field fieldable starts
-field-append [] z rest u e = rw u
+field-append [] z rest u e = rw (closes-cons z (59 ∷ rest), u)
 field-append (b ∷ c) z rest u e =
-    let (k, l) = (and-eq-true-iff (not (isTerminate b && starts 59 c)) (fieldable c)) .0 e in
-    rw (starts-append c z (59 ∷ rest) (terminate-not-semicolon z u), not-true (isTerminate b && starts 59 c) k, field-append c z rest u l)
+    let (k, l) = (and-eq-true-iff (not (closes (b ∷ c))) (fieldable c)) .0 e in
+    rw (
+      closes-cons b (c ++ z ∷ 59 ∷ rest),
+      starts-append c z (59 ∷ rest) (terminate-not-semicolon z u),
+      sym (closes-cons b c) ∙ not-true (closes (b ∷ c)) k,
+      field-append c z rest u l,
+    )
 
 pub quoted-some : (q : ℕ) (bs c : List ℕ) → isWhite q ≡ false → quoted q bs ≡ some c
     → (rest : List ℕ) × (bs ≡ c ++ q ∷ rest) × (quotable q c ≡ true)
@@ -71,14 +87,26 @@ pub field-some : (bs c : List ℕ) → field bs ≡ some c
 unfolding field fieldable
 field-some [] c e = impossible cc
 field-some (b ∷ bs) c e =
-    cond-cases (isTerminate b && starts 59 bs) _ _ _ e
+    cond-cases (closes (b ∷ bs)) _ _ _ e
     (λ k h.
-    let (u, v) = (and-eq-true-iff (isTerminate b) (starts 59 bs)) .0 k in
+    let (u, v) = (and-eq-true-iff (isTerminate b) (starts 59 bs)) .0 (sym (closes-cons b bs) ∙ k) in
     let (rest, s) = starts-true 59 bs v in
     let n : c ≡ [] = cc in
     rw n (b, rest, ap (λ r. b ∷ r) s, u, refl))
     (λ k h.
     let (d, f, n) = (map-eq-some-iff (λ (l : List ℕ). b ∷ l) (field bs)) .0 h in
     let (z, rest, s, u, l) = field-some bs d f in
-    let m : (isTerminate b && starts 59 d) ≡ false = rw (s, starts-append d z (59 ∷ rest) (terminate-not-semicolon z u)) at k in
-    rw (← n) (z, rest, ap (λ r. b ∷ r) s, u, rw (m, l)))
+    let m : (isTerminate b && starts 59 d) ≡ false = rw (s, starts-append d z (59 ∷ rest) (terminate-not-semicolon z u)) at (sym (closes-cons b bs) ∙ k) in
+    rw (← n) (z, rest, ap (λ r. b ∷ r) s, u, rw (closes-cons b d, m, l)))
+
+-- two bytes close a field
+pub field-close : (bs c : List ℕ) → field bs ≡ some c → closeLength (drop (length c) bs) ≡ 2
+unfolding closeLength lineEnd
+field-close bs c e =
+    let (z, rest, s, u, l) = field-some bs c e in
+    rw (s, drop-append-seam c (z ∷ 59 ∷ rest), u)
+
+pub fieldLexeme-some : (bs c : List ℕ) → field bs ≡ some c
+    → fieldLexeme (some c) bs ≡ cond (whiteNext (drop (length c + 2) bs)) (token (length c + 2) (record { kind = 11; content = c })) (faulty 6)
+unfolding fieldLexeme
+fieldLexeme-some bs c e = rw (field-close bs c e)

@@ -9,6 +9,7 @@ use native.Mathlib.Omega.{arith}
 use borrow.Author.Tests.{le-leb}
 use lib.ListN.{length, getD, take, drop, length-map, List·getD-map}
 use Rattle.star_text.specs.Bytes.{mostBytes}
+use Rattle.star_rows.specs.Widths.{tokenWidth}
 use Rattle.star_lex.specs.Rules.{today}
 use Rattle.star_lex.specs.Tokens.{Placed, Each, opening, tokenRow}
 use Rattle.star_text.specs.Outcome.{refused, accepted}
@@ -49,17 +50,17 @@ nowhere = record { at = 0; token = record { kind = 0; content = [] } }
 
 -- the words of a row, and the part of the file that it spans
 pub record Row (file words : List ℕ) (n : ℕ) : Type 0 where
-  pub kind : getD words (n * 3) 0 ≡ tokenAt file n .kind
-  pub ordered : getD words (n * 3 + 1) 0 ≤ getD words (n * 3 + 2) 0
-  pub within : getD words (n * 3 + 2) 0 ≤ length file
-  pub content : take (getD words (n * 3 + 2) 0 - getD words (n * 3 + 1) 0) (drop (getD words (n * 3 + 1) 0) file) ≡ tokenAt file n .content
+  pub kind : getD words (n * tokenWidth) 0 ≡ tokenAt file n .kind
+  pub ordered : getD words (n * tokenWidth + 1) 0 ≤ getD words (n * tokenWidth + 2) 0
+  pub within : getD words (n * tokenWidth + 2) 0 ≤ length file
+  pub content : take (getD words (n * tokenWidth + 2) 0 - getD words (n * tokenWidth + 1) 0) (drop (getD words (n * tokenWidth + 1) 0) file) ≡ tokenAt file n .content
 
 pub count-tokens : (file words : List ℕ) (count : ℕ) → Holds file words count → count ≡ length (fileTokens file)
 count-tokens file words count h = h .count-is ∙ sym (length-map (placed (tokensOf file)) (λ p. p .token))
 
 module _ (file words : List ℕ) (count : ℕ) (h : Holds file words count) (n : ℕ) (below : n < count) where
-  row-word : (k : ℕ) → k < 3 → getD words (n * 3 + k) 0 ≡ getD (tokenRow (getD (placed (tokensOf file)) n nowhere)) k 0
-  row-word k j = ap (λ ws. getD ws (n * 3 + k) 0) (h .rows) ∙ held-word 3 tokenRow row-wide nowhere (placed (tokensOf file)) (length words) n k (omega arith) j
+  row-word : (k : ℕ) → k < tokenWidth → getD words (n * tokenWidth + k) 0 ≡ getD (tokenRow (getD (placed (tokensOf file)) n nowhere)) k 0
+  row-word k j = ap (λ ws. getD ws (n * tokenWidth + k) 0) (h .rows) ∙ held-word tokenWidth tokenRow row-wide nowhere (placed (tokensOf file)) (length words) n k (omega arith) j
 
   pub held-row : Row file words n
   unfolding tokenRow
@@ -67,11 +68,11 @@ module _ (file words : List ℕ) (count : ℕ) (h : Holds file words count) (n :
       let p : Placed = getD (placed (tokensOf file)) n nowhere in
       let t : tokenAt file n ≡ p .token = List·getD-map (λ p. p .token) (placed (tokensOf file)) n nowhere in
       let part : PartOf file p = each-at (PartOf file) (placed (tokensOf file)) n nowhere (omega arith) (tokens-parts file) in
-      let start : getD words (n * 3 + 1) 0 ≡ p .at + length (opening (p .token .kind)) = row-word 1 (omega arith) in
-      let end : getD words (n * 3 + 2) 0 ≡ contentEnd p = row-word 2 (omega arith) in
-      let size : getD words (n * 3 + 2) 0 - getD words (n * 3 + 1) 0 ≡ length (p .token .content) = omega arith in
+      let start : getD words (n * tokenWidth + 1) 0 ≡ p .at + length (opening (p .token .kind)) = row-word 1 (omega arith) in
+      let end : getD words (n * tokenWidth + 2) 0 ≡ contentEnd p = row-word 2 (omega arith) in
+      let size : getD words (n * tokenWidth + 2) 0 - getD words (n * tokenWidth + 1) 0 ≡ length (p .token .content) = omega arith in
       record {
-        kind = ap (λ i. getD words i 0) (sym (add-zero (n * 3))) ∙ row-word 0 (omega arith) ∙ ap (λ u. u .kind) (sym t);
+        kind = ap (λ i. getD words i 0) (sym (add-zero (n * tokenWidth))) ∙ row-word 0 (omega arith) ∙ ap (λ u. u .kind) (sym t);
         ordered = omega arith;
         within = omega (arith, part .whole);
         content = rw (size, start) (sym (part .content) ∙ ap (λ u. u .content) (sym t));
@@ -91,9 +92,9 @@ module _ (file words : List ℕ) (count : ℕ) (h : Holds file words count) (n :
   unfolding firstByte tokenRow
   held-first =
       let p : Placed = getD (placed (tokensOf file)) n nowhere in
-      let kind : getD words (n * 3) 0 ≡ p .token .kind = ap (λ i. getD words i 0) (sym (add-zero (n * 3))) ∙ row-word 0 (omega arith) in
-      let start : getD words (n * 3 + 1) 0 ≡ p .at + length (opening (p .token .kind)) = row-word 1 (omega arith) in
-      rw (le-leb (n * 3 + 3) (length words) (omega (arith, h .room, h .count-is)), kind, start) (omega arith)
+      let kind : getD words (n * tokenWidth) 0 ≡ p .token .kind = ap (λ i. getD words i 0) (sym (add-zero (n * tokenWidth))) ∙ row-word 0 (omega arith) in
+      let start : getD words (n * tokenWidth + 1) 0 ≡ p .at + length (opening (p .token .kind)) = row-word 1 (omega arith) in
+      rw (le-leb (n * tokenWidth + tokenWidth) (length words) (omega (arith, h .room, h .count-is)), kind, start) (omega arith)
 
 module _ (file : List ℕ) (words : ℕ) (ps : List Placed) (e : tokensIn file words ≡ accepted ps) where
   -- the tokens of an accepted file

@@ -13,18 +13,16 @@ use Rattle.star_text.specs.Bytes.{isBlank, isTerminate, isWhite, isPrintable, i
 use Rattle.star_lex.specs.Rules.{Rules}
 use Rattle.star_lex.specs.Tokens.{Token, opening, dataWord, saveWord, loopWord, stopWord, globalWord}
 use Rattle.star_lex.specs.Split.{token, after, whiteNext, quoted, field, limited, blockWord, frameWord, alone, nameWord, referenceWord, wordLexeme, wordFrom, quotedLexeme, fieldLexeme, lexeme}
-use Rattle.star_lex.specs.Plain.{closing}
 use Rattle.star_lex.specs.WellFormed.{FormedBy, Ordinary, quotable, block, frame, frameEnd, loop, stop, name, word, reference, single, double, text, global}
 use Rattle.star_text.proofs.Bytes.{eqb-comm, allowed-printable, all-head, all-tail, all-append, run-append-drop, all-printable-run}
 use Rattle.star_lex.proofs.Cases.{impossible, cond-cases, either-cases}
 use Rattle.star_lex.proofs.Words.{after-append}
-use Rattle.star_lex.proofs.Delimited.{quoted-some, field-some}
+use Rattle.star_lex.proofs.Delimited.{quoted-some, field-some, fieldLexeme-some}
 
--- a word's token: the word's bytes, with nothing after its content
+-- a word's token: the word's bytes
 record WordOf (rules : Rules) (more : ℕ) (w : List ℕ) (m : ℕ) (t : Token) : Type 0 where
   length-is : m ≡ more
   bytes : w ≡ opening (t .kind) ++ t .content
-  nothing-after : closing (t .kind) ≡ []
   formed : FormedBy rules t
 
 limited-token : (rules : Rules) (more kind : ℕ) (c : List ℕ) (m : ℕ) (t : Token) → limited rules more kind c ≡ token m t
@@ -35,48 +33,48 @@ limited-token rules more kind c m t e =
 
 blockWord-token : (rules : Rules) (more : ℕ) (cs : List ℕ) (m : ℕ) (t : Token) → all isPrintable (dataWord ++ cs) ≡ true → blockWord rules more cs ≡ token m t
     → WordOf rules more (dataWord ++ cs) m t
-unfolding blockWord opening closing dataWord all isPrintable
+unfolding blockWord opening dataWord all isPrintable
 blockWord-token rules more [] m t p e = impossible cc
 blockWord-token rules more (x ∷ xs) m t p e =
     let (f, g, h) = limited-token rules more 1 (x ∷ xs) m t e in
-    rw g (record { length-is = f; bytes = refl; nothing-after = refl; formed = block x xs p h })
+    rw g (record { length-is = f; bytes = refl; formed = block x xs p h })
 
 frameWord-token : (rules : Rules) (more : ℕ) (cs : List ℕ) (m : ℕ) (t : Token) → all isPrintable (saveWord ++ cs) ≡ true → frameWord rules more cs ≡ token m t
     → WordOf rules more (saveWord ++ cs) m t
-unfolding frameWord opening closing saveWord all isPrintable
+unfolding frameWord opening saveWord all isPrintable
 frameWord-token rules more [] m t p e =
     let g : record { kind = 3; content = saveWord } ≡ t = cc in
-    rw (← g) (record { length-is = cc; bytes = refl; nothing-after = refl; formed = frameEnd })
+    rw (← g) (record { length-is = cc; bytes = refl; formed = frameEnd })
 frameWord-token rules more (x ∷ xs) m t p e =
     let (f, g, h) = limited-token rules more 2 (x ∷ xs) m t e in
-    rw g (record { length-is = f; bytes = refl; nothing-after = refl; formed = frame x xs p h })
+    rw g (record { length-is = f; bytes = refl; formed = frame x xs p h })
 
-alone-token : (rules : Rules) (more kind : ℕ) (w cs : List ℕ) (m : ℕ) (t : Token) → opening kind ≡ [] → closing kind ≡ []
+alone-token : (rules : Rules) (more kind : ℕ) (w cs : List ℕ) (m : ℕ) (t : Token) → opening kind ≡ []
     → FormedBy rules (record { kind = kind; content = w }) → alone more kind w cs ≡ token m t → WordOf rules more (w ++ cs) m t
 unfolding alone
-alone-token rules more kind w [] m t o c f e =
+alone-token rules more kind w [] m t o f e =
     let g : record { kind = kind; content = w } ≡ t = cc in
-    rw (← g) (record { length-is = cc; bytes = rw (o, append-nil); nothing-after = c; formed = f })
-alone-token rules more kind w (x ∷ xs) m t o c f e = impossible cc
+    rw (← g) (record { length-is = cc; bytes = rw (o, append-nil); formed = f })
+alone-token rules more kind w (x ∷ xs) m t o f e = impossible cc
 
 nameWord-token : (rules : Rules) (more : ℕ) (cs : List ℕ) (m : ℕ) (t : Token) → all isPrintable cs ≡ true → nameWord rules more cs ≡ token m t
     → WordOf rules more (95 ∷ cs) m t
-unfolding nameWord opening closing
+unfolding nameWord opening
 nameWord-token rules more [] m t p e = impossible cc
 nameWord-token rules more (x ∷ xs) m t p e =
     let (f, g, h) = limited-token rules more 6 (95 ∷ x ∷ xs) m t e in
-    rw g (record { length-is = f; bytes = refl; nothing-after = refl; formed = name x xs p h })
+    rw g (record { length-is = f; bytes = refl; formed = name x xs p h })
 
 referenceWord-token : (rules : Rules) (more : ℕ) (cs : List ℕ) (m : ℕ) (t : Token) → all isPrintable cs ≡ true → referenceWord more cs ≡ token m t
     → WordOf rules more (36 ∷ cs) m t
-unfolding referenceWord opening closing all isPrintable after dataWord saveWord loopWord stopWord globalWord
+unfolding referenceWord opening all isPrintable after dataWord saveWord loopWord stopWord globalWord
 referenceWord-token rules more [] m t p e =
     let g : record { kind = 7; content = 36 ∷ [] } ≡ t = cc in
     let o : Ordinary 36 [] = search in
-    rw (← g) (record { length-is = cc; bytes = refl; nothing-after = refl; formed = word 36 [] refl o })
+    rw (← g) (record { length-is = cc; bytes = refl; formed = word 36 [] refl o })
 referenceWord-token rules more (x ∷ xs) m t p e =
     let g : record { kind = 8; content = x ∷ xs } ≡ t = cc in
-    rw (← g) (record { length-is = cc; bytes = refl; nothing-after = refl; formed = reference x xs p })
+    rw (← g) (record { length-is = cc; bytes = refl; formed = reference x xs p })
 
 after-one-none : (a x : ℕ) (xs : List ℕ) → after (a ∷ []) (x ∷ xs) ≡ none → eqb x a ≡ false
 unfolding after
@@ -87,7 +85,7 @@ module _ (rules : Rules) (more x : ℕ) (xs : List ℕ) (m : ℕ) (t : Token) (p
   printable-after ps cs e = rw (after-append ps (x ∷ xs) cs e) at p
 
   wordLexeme-token : eqb x 35 ≡ false → eqb x 39 ≡ false → eqb x 34 ≡ false → wordLexeme rules more (x ∷ xs) ≡ token m t → WordOf rules more (x ∷ xs) m t
-  unfolding wordLexeme opening closing all isPrintable
+  unfolding wordLexeme opening all isPrintable
   wordLexeme-token no-comment no-quote no-double e =
       either-cases (after dataWord (x ∷ xs)) (blockWord rules more) _ _ e
       (λ cs q h. rw (after-append dataWord (x ∷ xs) cs q) (blockWord-token rules more cs m t (printable-after dataWord cs q) h))
@@ -96,13 +94,13 @@ module _ (rules : Rules) (more x : ℕ) (xs : List ℕ) (m : ℕ) (t : Token) (p
       (λ cs q h. rw (after-append saveWord (x ∷ xs) cs q) (frameWord-token rules more cs m t (printable-after saveWord cs q) h))
       (λ no-save e₂.
       either-cases (after loopWord (x ∷ xs)) (alone more 4 loopWord) _ _ e₂
-      (λ cs q h. rw (after-append loopWord (x ∷ xs) cs q) (alone-token rules more 4 loopWord cs m t refl refl loop h))
+      (λ cs q h. rw (after-append loopWord (x ∷ xs) cs q) (alone-token rules more 4 loopWord cs m t refl loop h))
       (λ no-loop e₃.
       either-cases (after stopWord (x ∷ xs)) (alone more 5 stopWord) _ _ e₃
-      (λ cs q h. rw (after-append stopWord (x ∷ xs) cs q) (alone-token rules more 5 stopWord cs m t refl refl stop h))
+      (λ cs q h. rw (after-append stopWord (x ∷ xs) cs q) (alone-token rules more 5 stopWord cs m t refl stop h))
       (λ no-stop e₄.
       either-cases (after globalWord (x ∷ xs)) (alone more 12 globalWord) _ _ e₄
-      (λ cs q h. rw (after-append globalWord (x ∷ xs) cs q) (alone-token rules more 12 globalWord cs m t refl refl global h))
+      (λ cs q h. rw (after-append globalWord (x ∷ xs) cs q) (alone-token rules more 12 globalWord cs m t refl global h))
       (λ no-global e₅.
       either-cases (after (95 ∷ []) (x ∷ xs)) (nameWord rules more) _ _ e₅
       (λ cs q h. rw (after-append (95 ∷ []) (x ∷ xs) cs q) (nameWord-token rules more cs m t (printable-after (95 ∷ []) cs q) h))
@@ -123,13 +121,13 @@ module _ (rules : Rules) (more x : ℕ) (xs : List ℕ) (m : ℕ) (t : Token) (p
         no-stop = no-stop;
         no-global = no-global;
       } in
-      rw (← g) (record { length-is = cc; bytes = refl; nothing-after = refl; formed = word x xs p o }))))))))
+      rw (← g) (record { length-is = cc; bytes = refl; formed = word x xs p o }))))))))
 
 -- a token at a place: its bytes stand there
 pub record TokenAt (rules : Rules) (b : ℕ) (bs : List ℕ) (more : ℕ) (t : Token) : Type 0 where
   pub rest : List ℕ
   pub bytes : b ∷ bs ≡ opening (t .kind) ++ (t .content ++ rest)
-  pub length-is : suc more ≡ length (opening (t .kind)) + length (t .content) + length (closing (t .kind))
+  pub within : length (opening (t .kind)) + length (t .content) ≤ suc more
   pub formed : FormedBy rules t
 
 allowed-part : (b : ℕ) (bs c rest : List ℕ) → bs ≡ c ++ rest → all isAllowed (b ∷ bs) ≡ true → all isAllowed c ≡ true
@@ -138,13 +136,13 @@ allowed-part b bs c rest s a =
 
 fieldLexeme-token : (rules : Rules) (b : ℕ) (bs : List ℕ) (more : ℕ) (t : Token) → b ≡ 59 → all isAllowed (b ∷ bs) ≡ true
     → fieldLexeme (field bs) bs ≡ token more t → TokenAt rules b bs more t
-unfolding fieldLexeme opening closing
+unfolding fieldLexeme opening
 fieldLexeme-token rules b bs more t n a e = go (field bs) refl e
   where
     go : (o : Option (List ℕ)) → field bs ≡ o → fieldLexeme o bs ≡ token more t → TokenAt rules b bs more t
     go none q h = impossible cc
     go (some c) q h =
-        cond-cases (whiteNext (drop (length c + 2) bs)) _ _ _ h
+        cond-cases (whiteNext (drop (length c + 2) bs)) _ _ _ (sym (fieldLexeme-some bs c q) ∙ h)
         (λ w g.
         let (z, rest, s, u, l) = field-some bs c q in
         let r : record { kind = 11; content = c } ≡ t = cc in
@@ -152,16 +150,16 @@ fieldLexeme-token rules b bs more t n a e = go (field bs) refl e
         rw (← r, n) (record {
           rest = z ∷ 59 ∷ rest;
           bytes = ap (λ r. 59 ∷ r) s;
-          length-is = omega arith;
+          within = omega arith;
           formed = text c (allowed-part b bs c (z ∷ 59 ∷ rest) s a) l;
         }))
         (λ w g. impossible cc)
 
-quotedLexeme-token : (rules : Rules) (kind q b : ℕ) (bs : List ℕ) (more : ℕ) (t : Token) → b ≡ q → isWhite q ≡ false → opening kind ≡ q ∷ [] → closing kind ≡ q ∷ []
+quotedLexeme-token : (rules : Rules) (kind q b : ℕ) (bs : List ℕ) (more : ℕ) (t : Token) → b ≡ q → isWhite q ≡ false → opening kind ≡ q ∷ []
     → ((c : List ℕ) → all isAllowed c ≡ true → quotable q c ≡ true → FormedBy rules (record { kind = kind; content = c }))
     → all isAllowed (b ∷ bs) ≡ true → quotedLexeme kind (quoted q bs) ≡ token more t → TokenAt rules b bs more t
 unfolding quotedLexeme
-quotedLexeme-token rules kind q b bs more t n w o c f a e = go (quoted q bs) refl e
+quotedLexeme-token rules kind q b bs more t n w o f a e = go (quoted q bs) refl e
   where
     go : (o : Option (List ℕ)) → quoted q bs ≡ o → quotedLexeme kind o ≡ token more t → TokenAt rules b bs more t
     go none q h = impossible cc
@@ -172,7 +170,7 @@ quotedLexeme-token rules kind q b bs more t n w o c f a e = go (quoted q bs) ref
         rw (← r, n) (record {
           rest = q ∷ rest;
           bytes = rw o (ap (λ r. q ∷ r) s);
-          length-is = rw (o, c) (omega arith);
+          within = rw o (omega arith);
           formed = f d (allowed-part b bs d (q ∷ rest) s a) l;
         })
 
@@ -189,13 +187,13 @@ word-token rules b bs more t a no-white no-comment no-quote no-double e =
       bytes =
           ap (λ r. b ∷ r) (run-append-drop (λ c. not (isWhite c)) bs)
           ∙ (ap (λ r. r ++ drop (length w) bs) (o .bytes) ∙ append-assoc (opening (t .kind)) (t .content) (drop (length w) bs));
-      length-is = rw (o .nothing-after) (omega (arith, o .length-is, simp length-append at (ap length (o .bytes))));
+      within = omega (arith, o .length-is, simp length-append at (ap length (o .bytes)));
       formed = o .formed;
     }
 
 pub lexeme-token : (rules : Rules) (line : Bool) (b : ℕ) (bs : List ℕ) (more : ℕ) (t : Token) → all isAllowed (b ∷ bs) ≡ true → lexeme rules line b bs ≡ token more t
     → TokenAt rules b bs more t
-unfolding lexeme wordFrom isWhite isBlank isTerminate opening closing
+unfolding lexeme wordFrom isWhite isBlank isTerminate opening
 lexeme-token rules line b bs more t a e =
     cond-cases (isWhite b) _ _ _ e (λ k h. impossible cc)
     (λ no-white e₁.
@@ -204,7 +202,7 @@ lexeme-token rules line b bs more t a e =
     cond-cases (line && eqb b 59) _ _ _ e₂
     (λ k h. fieldLexeme-token rules b bs more t (eqb-true b 59 ((and-eq-true-iff line (eqb b 59)) .0 k .1)) a h)
     (λ k e₃.
-    cond-cases (eqb b 39) _ _ _ e₃ (λ k h. quotedLexeme-token rules 9 39 b bs more t (eqb-true b 39 k) refl refl refl single a h)
+    cond-cases (eqb b 39) _ _ _ e₃ (λ k h. quotedLexeme-token rules 9 39 b bs more t (eqb-true b 39 k) refl refl single a h)
     (λ no-quote e₄.
-    cond-cases (eqb b 34) _ _ _ e₄ (λ k h. quotedLexeme-token rules 10 34 b bs more t (eqb-true b 34 k) refl refl refl double a h)
+    cond-cases (eqb b 34) _ _ _ e₄ (λ k h. quotedLexeme-token rules 10 34 b bs more t (eqb-true b 34 k) refl refl double a h)
     (λ no-double e₅. word-token rules b bs more t a no-white no-comment no-quote no-double e₅)))))

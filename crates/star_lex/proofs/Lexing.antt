@@ -21,7 +21,7 @@ use Rattle.star_lex.specs.Found.{foundAt, endOf, kindOf}
 use Rattle.star_lex.specs.declared.Found.the-variants.{Token as FoundToken, Fault}
 use Rattle.star_lex.specs.declared.word.Word.the-variants.{Kind, Ill}
 use Rattle.star_lex.proofs.Cases.{impossible}
-use Rattle.star_lex.proofs.Delimited.{quoted-some, field-some}
+use Rattle.star_lex.proofs.Delimited.{quoted-some, field-some, fieldLexeme-some}
 use Rattle.star_lex.proofs.Words.{after-append}
 
 -- of a content that ends within the file
@@ -60,10 +60,10 @@ module _ (file : List ℕ) (at : ℕ) (inside : at < length file) where
   field-closed : (c : List ℕ) (t : Bool) → field rest ≡ some c → whiteNext (drop (endOf (length file) (at + 1) (field rest) + 2) file) ≡ t
       → foundAt at (fieldLexeme (field rest) rest)
       ≡ cond t (FoundToken 11 (at + 1) (endOf (length file) (at + 1) (field rest)) (endOf (length file) (at + 1) (field rest) + 2)) (Fault 6)
-  unfolding foundAt fieldLexeme endOf rest opening
+  unfolding foundAt endOf rest opening
   field-closed c t q w =
       let e : at + 1 + (length c + 2) ≡ at + 1 + length c + 2 = omega arith in
-      rw (q, drop-drop, e, rw q at w) (ends t e)
+      rw (q, fieldLexeme-some rest c q, drop-drop, e, rw q at w) (ends t e)
     where
       ends : (t : Bool) → at + 1 + (length c + 2) ≡ at + 1 + length c + 2
           → foundAt at (cond t (token (length c + 2) (record { kind = 11; content = c })) (faulty 6))

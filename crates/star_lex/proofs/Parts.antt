@@ -102,7 +102,7 @@ steps-ordered rules (takes {line} {at} {b} {bs} {ps} more t e s) a =
     let h : 0 < length (opening (t .kind)) + length (t .content) = formed-long rules (k .formed) in (
       omega arith,
       omega arith,
-      Ordered-from (contentEnd (record { at = at; token = t })) (suc at + more) ps (omega (arith, k .length-is)) (steps-ordered rules s (all-tail isAllowed b bs a)),
+      Ordered-from (contentEnd (record { at = at; token = t })) (suc at + more) ps (omega (arith, k .within)) (steps-ordered rules s (all-tail isAllowed b bs a)),
     )
 
 pub ordered-by : (rules : Rules) (file : List ℕ) (ps : List Placed) → tokensBy rules file ≡ accepted ps → Ordered 0 ps

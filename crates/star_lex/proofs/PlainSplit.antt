@@ -16,11 +16,11 @@ use Rattle.star_text.specs.Bytes.{isBlank, isTerminate, isWhite, isPrintable, i
 use Rattle.star_lex.specs.Rules.{Rules, today}
 use Rattle.star_lex.specs.Tokens.{Token, Placed, Each, opening, dataWord, saveWord, loopWord, stopWord, globalWord}
 use Rattle.star_text.specs.Outcome.{accepted, then, need}
-use Rattle.star_lex.specs.Split.{token, after, starts, whiteNext, quoted, limited, blockWord, frameWord, alone, nameWord, referenceWord, either, wordLexeme, wordFrom, quotedLexeme, fieldLexeme, lexeme, moreOf, before, enter, split, tokensBy, tokensOf}
-use Rattle.star_lex.specs.Plain.{closing, indent, plainToken, plainOf}
+use Rattle.star_lex.specs.Split.{token, after, starts, whiteNext, quoted, field, limited, blockWord, frameWord, alone, nameWord, referenceWord, either, wordLexeme, wordFrom, quotedLexeme, lexeme, moreOf, before, enter, split, tokensBy, tokensOf}
+use Rattle.star_lex.specs.Plain.{newline, closing, indent, plainToken, plainOf}
 use Rattle.star_lex.specs.WellFormed.{FormedBy, WellFormed, Ordinary, quotable, fieldable, block, frame, frameEnd, loop, stop, name, word, reference, single, double, text, global}
 use Rattle.star_text.proofs.Bytes.{eqb-comm, printable-not-white, printable-allowed, not-white-not-terminate, all-head, all-tail, all-append, all-cond, all-implies, run-append, run-all}
-use Rattle.star_lex.proofs.Delimited.{quoted-append, field-append}
+use Rattle.star_lex.proofs.Delimited.{quoted-append, field-append, fieldLexeme-some}
 
 -- the split goes over bytes that belong to a lexeme already read
 pub split-skip : (rules : Rules) (xs rest : List ℕ) (at : ℕ) → split rules (length xs) false at (xs ++ rest) ≡ split rules 0 false (at + length xs) rest
@@ -30,7 +30,7 @@ split-skip rules (x ∷ xs) rest at = rw (add-suc, ← suc-add) (split-skip rule
 
 -- a token with its delimiters
 abbrev body : Token → List ℕ
-body t = opening (t .kind) ++ (t .content ++ closing (t .kind))
+body t = opening (t .kind) ++ (t .content ++ closing (t .kind) (t .content))
 
 -- at the first byte of a token before a line end, the split finds that token
 record Reads (rules : Rules) (line : Bool) (t : Token) : Type 0 where
@@ -163,13 +163,15 @@ reads-double rules c e = record {
 }
 
 reads-text : (rules : Rules) (c : List ℕ) → fieldable c ≡ true → Reads rules true (record { kind = 11; content = c })
-unfolding opening closing lexeme fieldLexeme whiteNext isWhite isBlank isTerminate
+unfolding opening closing newline lexeme whiteNext isWhite isBlank isTerminate
 reads-text rules c e = record {
   first = 59;
   others = c ++ 10 ∷ 59 ∷ [];
   bytes = refl;
   stays = refl;
-  reads = λ rest. rw (append-assoc, field-append c 10 (10 ∷ rest) refl e, drop-append-add c (10 ∷ 59 ∷ 10 ∷ rest) 2, length-append);
+  reads = λ rest.
+      let f : field (c ++ 10 ∷ 59 ∷ 10 ∷ rest) ≡ some c = field-append c 10 (10 ∷ rest) refl e in
+      rw (append-assoc, f, fieldLexeme-some (c ++ 10 ∷ 59 ∷ 10 ∷ rest) c f, drop-append-add c (10 ∷ 59 ∷ 10 ∷ rest) 2, length-append);
 }
 
 -- a token's bytes stand at the line's start or after one blank, and are read there
@@ -244,9 +246,9 @@ allowed-opening : (kind : ℕ) → all isAllowed (opening kind) ≡ true
 unfolding opening all isAllowed dataWord saveWord
 allowed-opening kind = search (all-cond isAllowed) depth 8
 
-allowed-closing : (kind : ℕ) → all isAllowed (closing kind) ≡ true
-unfolding closing all isAllowed
-allowed-closing kind = search (all-cond isAllowed) depth 8
+allowed-closing : (kind : ℕ) (content : List ℕ) → all isAllowed (closing kind content) ≡ true
+unfolding closing newline all isAllowed
+allowed-closing kind content = search (all-cond isAllowed) depth 8
 
 allowed-indent : (t : Token) → all isAllowed (indent t) ≡ true
 unfolding indent all isAllowed
@@ -254,7 +256,7 @@ allowed-indent t = search (all-cond isAllowed) depth 8
 
 allowed-plain : (rules : Rules) {t : Token} → FormedBy rules t → all isAllowed (plainToken t) ≡ true
 unfolding plainToken all isAllowed
-allowed-plain rules {t} w = simp (all-append isAllowed, allowed-indent t, allowed-opening (t .kind), allowed-content rules w, allowed-closing (t .kind))
+allowed-plain rules {t} w = simp (all-append isAllowed, allowed-indent t, allowed-opening (t .kind), allowed-content rules w, allowed-closing (t .kind) (t .content))
 
 allowed-plainOf : (rules : Rules) (ts : List Token) → Each (FormedBy rules) ts → all isAllowed (plainOf ts) ≡ true
 unfolding plainOf flatMap all

@@ -10,6 +10,7 @@ use native.Mathlib.Omega.{arith}
 use lib.Dec.{eqb}
 use lib.ListN.{length, getD, drop, length-append, length-drop, drop-of-length-le}
 use lib.Seq.{drop-cons, drop-drop}
+use Rattle.star_rows.specs.Widths.{tokenWidth}
 use Rattle.star_rows.specs.Rows.{putRow, stored}
 use Rattle.star_rows.proofs.Stored.{stored-none, stored-more}
 use Rattle.star_text.specs.Bytes.{isBlank, isTerminate, isWhite, run}
@@ -21,7 +22,7 @@ use Rattle.star_lex.specs.Split.{Lexeme, gap, token, faulty, Split, whit
 use Rattle.star_lex.specs.Found.{foundAt}
 use Rattle.star_lex.specs.declared.Found.the-variants.{Gap, Token as FoundToken, Fault}
 use Rattle.star_lex.proofs.Cases.{impossible}
-use Rattle.star_lex.proofs.Delimited.{quoted-some, field-some}
+use Rattle.star_lex.proofs.Delimited.{quoted-some, field-some, fieldLexeme-some}
 use Rattle.star_lex.proofs.Lexing.{Shaped, word-shaped}
 
 -- bytes that belong to a lexeme already read are passed over
@@ -94,7 +95,8 @@ field-within bs none e = (omega arith, omega arith)
 field-within bs (some c) e =
     let (z, rest, s, u, v) = field-some bs c e in
     let n : length bs ≡ length c + suc (suc (length rest)) = simp length-append at (ap length s) in
-    cond-within (length bs) (whiteNext (drop (length c + 2) bs)) _ _ (λ q. (omega arith, omega arith)) (λ q. (omega arith, omega arith))
+    rw (fieldLexeme-some bs c e)
+    (cond-within (length bs) (whiteNext (drop (length c + 2) bs)) _ _ (λ q. (omega arith, omega arith)) (λ q. (omega arith, omega arith)))
 
 quoted-within : (q kind : ℕ) (bs : List ℕ) (o : Option (List ℕ)) → isWhite q ≡ false → length (opening kind) ≡ 1 → quoted q bs ≡ o
     → Within (length bs) (quotedLexeme kind o)
@@ -202,11 +204,11 @@ pub record Progress (file table₀ table : List ℕ) (at count : ℕ) (line : Bo
   pub done : List Placed
   pub so-far : split today 0 true 0 file ≡ allBefore done (split today 0 line at (drop at file))
   pub counted : count ≡ length done
-  pub rows : table ≡ stored 3 tokenRow done table₀
+  pub rows : table ≡ stored tokenWidth tokenRow done table₀
   pub few : count ≤ at
   pub inside : at ≤ length file
 
-pub row-wide : (p : Placed) → length (tokenRow p) ≡ 3
+pub row-wide : (p : Placed) → length (tokenRow p) ≡ tokenWidth
 unfolding tokenRow
 row-wide p = refl
 
@@ -215,7 +217,7 @@ progress-start file table = record {
   done = [];
   so-far = refl;
   counted = refl;
-  rows = stored-none 3 tokenRow row-wide (omega arith) table;
+  rows = stored-none tokenWidth tokenRow row-wide (omega arith) table;
   few = zero-le;
   inside = zero-le;
 }
@@ -276,7 +278,7 @@ module _ (file table₀ table : List ℕ) (at count : ℕ) (line : Bool) (p : Pr
               ap (λ r. putRow r count table) (f .row)
               ∙ ap (λ n. putRow (tokenRow q) n table) (p .counted)
               ∙ ap (putRow (tokenRow q) (length (p .done))) (p .rows)
-              ∙ sym (stored-more 3 tokenRow row-wide (omega arith) (p .done) q table₀);
+              ∙ sym (stored-more tokenWidth tokenRow row-wide (omega arith) (p .done) q table₀);
           few = omega (arith, p .few, f .past);
           inside = omega (arith, w .0, f .past);
         },

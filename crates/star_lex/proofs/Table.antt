@@ -7,6 +7,7 @@ use Prim.Native.Nat.{ℕ, _+_, _-_, _*_, _≤_, _<_}
 use borrow.Author.Tests.{le-leb, lt-leb, leb-true}
 use lib.Dec.{leb}
 use lib.ListN.{length, getD, take, drop}
+use Rattle.star_rows.specs.Widths.{tokenWidth}
 use Rattle.star_lex.specs.Tokens.{opening}
 use Rattle.star_lex.specs.Found.{isSome}
 use Rattle.star_lex.specs.Table.{partOf, contentIn, orEmpty, startIn, firstByte}
@@ -43,36 +44,36 @@ module _ (file : List ℕ) (start end : ℕ) where
 
 -- a row of the words that spans a part of the file
 pub record Spans (file words : List ℕ) (n : ℕ) : Type 0 where
-  pub row : n * 3 + 3 ≤ length words
-  pub ordered : getD words (n * 3 + 1) 0 ≤ getD words (n * 3 + 2) 0
-  pub within : getD words (n * 3 + 2) 0 ≤ length file
+  pub row : n * tokenWidth + tokenWidth ≤ length words
+  pub ordered : getD words (n * tokenWidth + 1) 0 ≤ getD words (n * tokenWidth + 2) 0
+  pub within : getD words (n * tokenWidth + 2) 0 ≤ length file
 
 module _ (file words : List ℕ) (n : ℕ) where
-  pub content-row : n * 3 + 3 ≤ length words → contentIn file words n ≡ partOf file (getD words (n * 3 + 1) 0) (getD words (n * 3 + 2) 0)
+  pub content-row : n * tokenWidth + tokenWidth ≤ length words → contentIn file words n ≡ partOf file (getD words (n * tokenWidth + 1) 0) (getD words (n * tokenWidth + 2) 0)
   unfolding contentIn
-  content-row h = rw (le-leb (n * 3 + 3) (length words) h)
+  content-row h = rw (le-leb (n * tokenWidth + tokenWidth) (length words) h)
 
-  pub content-none : length words < n * 3 + 3 → contentIn file words n ≡ none
+  pub content-none : length words < n * tokenWidth + tokenWidth → contentIn file words n ≡ none
   unfolding contentIn
-  content-none h = rw (lt-leb (n * 3 + 3) (length words) h)
+  content-none h = rw (lt-leb (n * tokenWidth + tokenWidth) (length words) h)
 
   -- the row of a content is there, and spans it
   pub content-inside : isSome (contentIn file words n) ≡ true → Spans file words n
   unfolding contentIn isSome
-  content-inside = go (leb (n * 3 + 3) (length words)) refl
+  content-inside = go (leb (n * tokenWidth + tokenWidth) (length words)) refl
     where
-      go : (t : Bool) → leb (n * 3 + 3) (length words) ≡ t → isSome (cond t (partOf file (getD words (n * 3 + 1) 0) (getD words (n * 3 + 2) 0)) none) ≡ true
+      go : (t : Bool) → leb (n * tokenWidth + tokenWidth) (length words) ≡ t → isSome (cond t (partOf file (getD words (n * tokenWidth + 1) 0) (getD words (n * tokenWidth + 2) 0)) none) ≡ true
           → Spans file words n
       go true e h = let k = part-inside file _ _ h in record { row = leb-true _ _ e; ordered = k .0; within = k .1 }
       go false e h = impossible cc
 
   pub content-whole : isSome (contentIn file words n) ≡ true
-      → contentIn file words n ≡ some (take (getD words (n * 3 + 2) 0 - getD words (n * 3 + 1) 0) (drop (getD words (n * 3 + 1) 0) file))
+      → contentIn file words n ≡ some (take (getD words (n * tokenWidth + 2) 0 - getD words (n * tokenWidth + 1) 0) (drop (getD words (n * tokenWidth + 1) 0) file))
   content-whole h =
       let k = content-inside h in
       content-row (k .row) ∙ part-whole file _ _ (k .ordered) (k .within)
 
-  pub start-some : isSome (contentIn file words n) ≡ true → startIn file words n ≡ getD words (n * 3 + 1) 0
+  pub start-some : isSome (contentIn file words n) ≡ true → startIn file words n ≡ getD words (n * tokenWidth + 1) 0
   unfolding startIn
   start-some h = rw h
 
@@ -82,13 +83,13 @@ module _ (file words : List ℕ) (n : ℕ) where
 
 -- the first byte of a token
 module _ (words : List ℕ) (n : ℕ) where
-  pub first-row : n * 3 + 3 ≤ length words → firstByte words n ≡ getD words (n * 3 + 1) 0 - length (opening (getD words (n * 3) 0))
+  pub first-row : n * tokenWidth + tokenWidth ≤ length words → firstByte words n ≡ getD words (n * tokenWidth + 1) 0 - length (opening (getD words (n * tokenWidth) 0))
   unfolding firstByte
-  first-row h = rw (le-leb (n * 3 + 3) (length words) h)
+  first-row h = rw (le-leb (n * tokenWidth + tokenWidth) (length words) h)
 
-  pub first-none : length words < n * 3 + 3 → firstByte words n ≡ 0
+  pub first-none : length words < n * tokenWidth + tokenWidth → firstByte words n ≡ 0
   unfolding firstByte
-  first-none h = rw (lt-leb (n * 3 + 3) (length words) h)
+  first-none h = rw (lt-leb (n * tokenWidth + tokenWidth) (length words) h)
 
 -- what there is, and what stands for it where there is none
 pub some-of : (o : Option (List ℕ)) → isSome o ≡ true → o ≡ some (orEmpty o)

@@ -4,6 +4,7 @@ use mathlib.Core.List.{List, [], map}
 use Prim.Native.Nat.{ℕ, _*_, _≤_}
 use lib.ListN.{length, getD}
 use Rattle.star_text.specs.Bytes.{mostBytes}
+use Rattle.star_rows.specs.Widths.{tokenWidth}
 use Rattle.star_rows.specs.Rows.{holding}
 use Rattle.star_lex.specs.Tokens.{Token, tokenRow}
 use Rattle.star_lex.specs.Split.{tokensOf, placed}
@@ -20,5 +21,5 @@ tokenAt file n = getD (fileTokens file) n (record { kind = 0; content = [] })
 pub record Holds (file words : List ℕ) (count : ℕ) : Type 0 where
   pub small : length file ≤ mostBytes
   pub rows : words ≡ holding tokenRow (placed (tokensOf file)) (length words)
-  pub room : length (placed (tokensOf file)) * 3 ≤ length words
+  pub room : length (placed (tokensOf file)) * tokenWidth ≤ length words
   pub count-is : count ≡ length (placed (tokensOf file))

@@ -43,10 +43,23 @@ quoted q [] = none
 quoted q (b ∷ bs) =
     cond (eqb b q && whiteNext bs) (some []) (cond (isTerminate b) none (Option·map (λ c. b ∷ c) (quoted q bs)))
 
--- the content of a text field, from after its `;`: up to the next terminate that is directly followed by `;`
+-- how many bytes a line end that begins here takes; 0 where none begins
+unfoldable pub lineEnd : List ℕ → ℕ
+lineEnd [] = 0
+lineEnd (b ∷ bs) = cond (isTerminate b) 1 0
+
+-- a text field closes here: a line end that is directly followed by `;`
+unfoldable pub closes : List ℕ → Bool
+closes bs = leb 1 (lineEnd bs) && starts 59 (drop (lineEnd bs) bs)
+
+-- how many bytes close it
+unfoldable pub closeLength : List ℕ → ℕ
+closeLength bs = lineEnd bs + 1
+
+-- the content of a text field, from after its `;`: up to where it first closes
 unfoldable pub field : List ℕ → Option (List ℕ)
 field [] = none
-field (b ∷ bs) = cond (isTerminate b && starts 59 bs) (some []) (Option·map (λ c. b ∷ c) (field bs))
+field (b ∷ bs) = cond (closes (b ∷ bs)) (some []) (Option·map (λ c. b ∷ c) (field bs))
 
 -- a name or code of more bytes than the rules allow is refusal 4
 unfoldable pub limited : (rules : Rules) → ℕ → ℕ → List ℕ → Lexeme
@@ -104,7 +117,8 @@ quotedLexeme kind (some c) = token (suc (length c)) (record { kind = kind; conte
 unfoldable pub fieldLexeme : Option (List ℕ) → List ℕ → Lexeme
 fieldLexeme none bs = faulty 6
 fieldLexeme (some c) bs =
-    cond (whiteNext (drop (length c + 2) bs)) (token (length c + 2) (record { kind = 11; content = c })) (faulty 6)
+    let more : ℕ = length c + closeLength (drop (length c) bs) in
+    cond (whiteNext (drop more bs)) (token more (record { kind = 11; content = c })) (faulty 6)
 
 -- at a token's start, the first rule that fits holds: whether the byte is the first of its line, the byte, and those after it
 unfoldable pub lexeme : (rules : Rules) → Bool → ℕ → List ℕ → Lexeme

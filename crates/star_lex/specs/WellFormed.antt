@@ -9,7 +9,7 @@ use lib.ListN.{length}
 use Rattle.star_text.specs.Bytes.{isTerminate, isWhite, isPrintable, isAllowed, all}
 use Rattle.star_lex.specs.Rules.{Rules, today}
 use Rattle.star_lex.specs.Tokens.{Token, dataWord, saveWord, loopWord, stopWord, globalWord}
-use Rattle.star_lex.specs.Split.{after, starts}
+use Rattle.star_lex.specs.Split.{after, closes}
 
 -- the first byte is white space
 unfoldable pub startsWhite : List ℕ → Bool
@@ -21,10 +21,10 @@ unfoldable pub quotable : ℕ → List ℕ → Bool
 quotable q [] = true
 quotable q (b ∷ bs) = not (isTerminate b) && (not (eqb b q && startsWhite bs) && quotable q bs)
 
--- no terminate that is directly followed by `;`
+-- no text field closes within
 unfoldable pub fieldable : List ℕ → Bool
 fieldable [] = true
-fieldable (b ∷ bs) = not (isTerminate b && starts 59 bs) && fieldable bs
+fieldable (b ∷ bs) = not (closes (b ∷ bs)) && fieldable bs
 
 -- a word that no other rule takes: it begins with none of `#`, quotes, `_` and the five keywords, and with `$` only where that is all
 pub record Ordinary (first : ℕ) (others : List ℕ) : Type 0 where

@@ -8,6 +8,7 @@ ghost use mathlib.Core.List.{List};
 ghost use Prim.Native.Nat.{_+_, _≤_, _<_};
 ghost use lib.ListN.{length, getD, drop, replicate};
 ghost use Rattle.star_rows.specs.Rows.{stored};
+ghost use Rattle.star_rows.specs.Widths.{tokenWidth};
 ghost use mathlib.Core.Bool.{true, false, _&&_};
 ghost use lib.Dec.{eqb};
 ghost use Rattle.star_text.specs.Bytes.{mostBytes, Classes, isWhite};
@@ -24,6 +25,9 @@ ghost use Rattle.star_lex.specs.Table.{contentIn, orEmpty, startIn, firs
 const BLANK: u8 = 2;
 
 const TERMINATE: u8 = 3;
+
+// The words of a row of table 1.
+const WIDTH: usize = star_rows::TOKEN_WIDTH as usize;
 
 // What splitting a file answers: refusal and place, both 0 when accepted, and the number of tokens.
 pub struct Tokens {
@@ -144,7 +148,7 @@ fn split(classes: &[u8; 256], file: &[u8], table: &mut [u32]) -> Tokens
     requires { ⌜ Classes (now classes) ⌝ }
     ensures { λ r. ⌜ r ≡ splitAnswer (Split·split today 0 true 0 (now (file .entry))) ⌝ }
     ensures { λ _. ⌜ ((ps : List Placed) → Split·split today 0 true 0 (now (file .entry)) ≡ accepted ps
-        → now (table .exit) ≡ stored 3 tokenRow ps (now (table .entry))) ⌝ }
+        → now (table .exit) ≡ stored tokenWidth tokenRow ps (now (table .entry))) ⌝ }
 {
     let mut at = 0;
     let mut line = true;
@@ -202,20 +206,20 @@ pub fn read_tokens(file: &[u8], table: &mut [u32]) -> Tokens
     if star_text::MOST_BYTES < file.len() {
         return refuse(table, 1, 0);
     }
-    let classes = star_text::class_table();
-    let at = star_text::first_refused(&classes, file);
+    let at = star_text::first_refused(file);
     if at < file.len() {
         return refuse(table, 2, at as u32);
     }
+    let classes = star_text::class_table();
     let found = split(&classes, file, table);
     if found.refusal != 0 {
         return refuse(table, found.refusal, found.place);
     }
     let count = found.count as usize;
-    if table.len() / 3 < count {
+    if table.len() / WIDTH < count {
         return refuse(table, 7, 1);
     }
-    star_rows::clear_from(table, count * 3);
+    star_rows::clear_from(table, count * WIDTH);
     found
 }
 
@@ -223,11 +227,11 @@ pub fn read_tokens(file: &[u8], table: &mut [u32]) -> Tokens
 pub fn has_content(file: &[u8], tokens: &[u32], n: usize) -> bool
     ensures { λ r. ⌜ r ≡ isSome (contentIn (now (file .entry)) (now (tokens .entry)) n) ⌝ }
 {
-    if tokens.len() / 3 <= n {
+    if tokens.len() / WIDTH <= n {
         return false;
     }
-    let start = tokens[n * 3 + 1];
-    let end = tokens[n * 3 + 2];
+    let start = tokens[n * WIDTH + 1];
+    let end = tokens[n * WIDTH + 2];
     if end < start {
         return false;
     }
@@ -243,8 +247,8 @@ pub fn content<'a>(file: &'a [u8], tokens: &[u32], n: usize) -> &'a [u8]
     if !has_content(file, tokens, n) {
         return &file[0..0];
     }
-    let start = tokens[n * 3 + 1] as usize;
-    let end = tokens[n * 3 + 2] as usize;
+    let start = tokens[n * WIDTH + 1] as usize;
+    let end = tokens[n * WIDTH + 2] as usize;
     &file[start..end]
 }
 
@@ -253,11 +257,11 @@ pub fn content<'a>(file: &'a [u8], tokens: &[u32], n: usize) -> &'a [u8]
 pub fn first_byte(tokens: &[u32], n: usize) -> u32
     ensures { λ r. ⌜ r ≡ firstByte (now (tokens .entry)) n ⌝ }
 {
-    if n >= tokens.len() / 3 {
+    if n >= tokens.len() / WIDTH {
         return 0;
     }
-    let start = tokens[n * 3 + 1] as usize;
-    let before = word::lead(tokens[n * 3]);
+    let start = tokens[n * WIDTH + 1] as usize;
+    let before = word::lead(tokens[n * WIDTH]);
     if start < before {
         return 0;
     }

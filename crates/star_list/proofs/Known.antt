@@ -5,7 +5,7 @@ use Rattle.star_text.specs.Outcome.{then, need}
 use Rattle.star_text.specs.Names.{key, equal}
 use Rattle.star_text.specs.Bytes.{isBlank, isTerminate, isWhite, isPrintable, isAllowed, run, firstRefused}
 use Rattle.star_lex.specs.Tokens.{dataWord, saveWord, loopWord, stopWord, globalWord}
-use Rattle.star_lex.specs.Split.{after, starts, whiteNext, quoted, field, limited, blockWord, frameWord, alone, nameWord, referenceWord, either, wordLexeme, wordFrom, quotedLexeme, fieldLexeme, lexeme, moreOf, before, enter, split, tokensBy}
+use Rattle.star_lex.specs.Split.{after, starts, whiteNext, quoted, lineEnd, closes, closeLength, field, limited, blockWord, frameWord, alone, nameWord, referenceWord, either, wordLexeme, wordFrom, quotedLexeme, fieldLexeme, lexeme, moreOf, before, enter, split, tokensBy}
 use Rattle.star_lex.specs.Found.{tokensInBy, tokensFit}
 use Rattle.star_grammar.specs.Tables.{noRows, pass, openLoop, putSet, putName, putPacket, putValue}
 use Rattle.star_grammar.specs.Machine.{sortOf, setOf, parentOf, between, filled, fill, valueAt, begin, headerStep, noValue, noValueAt, bodyStep, startStep, namedStep, step, endBetween, endBody, endRun, run as machine-run}
@@ -17,7 +17,7 @@ use Rattle.star_list.specs.Listing.{refusedWord, line, spaced, blockCode
 
 -- `a/11 1 2 4 4/`
 pub full-listing : listingOf fullCase ≡ (97 ∷ 10 ∷ 49 ∷ 49 ∷ 32 ∷ 49 ∷ 32 ∷ 50 ∷ 32 ∷ 52 ∷ 32 ∷ 52 ∷ 10 ∷ [])
-unfolding flatMap isBlank isTerminate isWhite isPrintable isAllowed run firstRefused dataWord saveWord loopWord stopWord globalWord after starts whiteNext quoted field limited blockWord frameWord alone nameWord referenceWord either wordLexeme wordFrom quotedLexeme fieldLexeme lexeme moreOf before enter split tokensBy tokensInBy tokensFit then need noRows pass openLoop putSet putName putPacket putValue sortOf setOf parentOf between filled fill valueAt begin headerStep noValue noValueAt bodyStep startStep namedStep step endBetween endBody endRun machine-run key equal among nothing isTaken takeBlock takeFrame endFrame takeName takes firstRepeat tokenPlace decide grammarOf roomFor rowsFit readBy digits decimal refusedWord line spaced blockCodes codeLines refusedLine countsLine textOf listingOf
+unfolding flatMap isBlank isTerminate isWhite isPrintable isAllowed run firstRefused dataWord saveWord loopWord stopWord globalWord after starts whiteNext quoted lineEnd closes closeLength field limited blockWord frameWord alone nameWord referenceWord either wordLexeme wordFrom quotedLexeme fieldLexeme lexeme moreOf before enter split tokensBy tokensInBy tokensFit then need noRows pass openLoop putSet putName putPacket putValue sortOf setOf parentOf between filled fill valueAt begin headerStep noValue noValueAt bodyStep startStep namedStep step endBetween endBody endRun machine-run key equal among nothing isTaken takeBlock takeFrame endFrame takeName takes firstRepeat tokenPlace decide grammarOf roomFor rowsFit readBy digits decimal refusedWord line spaced blockCodes codeLines refusedLine countsLine textOf listingOf
 full-listing = refl
 
 -- `data_`: `refused 3 0/`

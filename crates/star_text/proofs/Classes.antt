@@ -8,7 +8,7 @@ use native.Mathlib.Omega.{arith}
 use borrow.Author.Tests.{eqb-true, eqb-false, lt-ltb, le-ltb, leb-true, leb-false}
 use lib.Dec.{T, eqb, leb, ltb, eqb→eq}
 use lib.ListN.{length, getD}
-use Rattle.star_text.specs.Bytes.{isBlank, isTerminate, isWhite, isPrintable, isAllowed, classOf, Classes, classIn, allowedIn, whiteIn, terminateIn, belowIn, run, firstRefused, firstRefusedIn}
+use Rattle.star_text.specs.Bytes.{isBlank, isTerminate, isWhite, isPrintable, classOf, Classes, classIn, whiteIn, terminateIn, belowIn, run}
 use Rattle.star_text.proofs.Run.{run-agree}
 
 pub both-left : (a b : Bool) → T (a && b) → T a
@@ -43,11 +43,10 @@ classes-right table t = record { class = λ b h. eqb→eq (classIn table b) (cla
 
 -- what the class of a byte says of it
 says : ℕ → Bool
-says b =
-    Bool·beq (leb 1 (classOf b)) (isAllowed b) && (Bool·beq (leb 2 (classOf b)) (isWhite b) && Bool·beq (leb 3 (classOf b)) (isTerminate b))
+says b = Bool·beq (leb 2 (classOf b)) (isWhite b) && Bool·beq (leb 3 (classOf b)) (isTerminate b)
 
 passes : T (below says 256)
-unfolding below says classOf isAllowed isWhite isBlank isTerminate isPrintable
+unfolding below says classOf isWhite isBlank isTerminate isPrintable
 passes = tt
 
 beq-eq : (a b : Bool) → T (Bool·beq a b) → a ≡ b
@@ -68,17 +67,13 @@ module _ {table : List ℕ} (c : Classes table) where
     said : T (says b)
     said = below-at says 256 b passes h
 
-    pub allowed-is : allowedIn table b ≡ isAllowed b
-    unfolding says
-    allowed-is = rw (c .class b h) (beq-eq (leb 1 (classOf b)) (isAllowed b) (both-left (Bool·beq (leb 1 (classOf b)) (isAllowed b)) _ said))
-
     pub white-is : whiteIn table b ≡ isWhite b
     unfolding says
-    white-is = rw (c .class b h) (beq-eq (leb 2 (classOf b)) (isWhite b) (both-left (Bool·beq (leb 2 (classOf b)) (isWhite b)) _ (both-right (Bool·beq (leb 1 (classOf b)) (isAllowed b)) _ said)))
+    white-is = rw (c .class b h) (beq-eq (leb 2 (classOf b)) (isWhite b) (both-left (Bool·beq (leb 2 (classOf b)) (isWhite b)) _ said))
 
     pub terminate-is : terminateIn table b ≡ isTerminate b
     unfolding says
-    terminate-is = rw (c .class b h) (beq-eq (leb 3 (classOf b)) (isTerminate b) (both-right (Bool·beq (leb 2 (classOf b)) (isWhite b)) _ (both-right (Bool·beq (leb 1 (classOf b)) (isAllowed b)) _ said)))
+    terminate-is = rw (c .class b h) (beq-eq (leb 3 (classOf b)) (isTerminate b) (both-right (Bool·beq (leb 2 (classOf b)) (isWhite b)) _ said))
 
     -- classes below that of white space and of line ends
     pub below-white : belowIn table 2 b ≡ not (isWhite b)
@@ -86,10 +81,6 @@ module _ {table : List ℕ} (c : Classes table) where
 
     pub below-terminate : belowIn table 3 b ≡ not (isTerminate b)
     below-terminate = ltb-not-leb (classIn table b) 3 ∙ ap not terminate-is
-
-  pub first-refused-is : (file : List ℕ) → ((i : ℕ) → getD file i 0 < 256) → firstRefusedIn table file ≡ firstRefused file
-  unfolding firstRefused
-  first-refused-is file bytes = ap length (run-agree (allowedIn table) isAllowed allowed-is file bytes)
 
   -- runs of bytes by their classes
   pub run-word : (file : List ℕ) → ((i : ℕ) → getD file i 0 < 256) → run (belowIn table 2) file ≡ run (λ b. not (isWhite b)) file

@@ -4,3 +4,4 @@ pub mod Classes
 pub mod Names
 pub mod Outcome
 pub mod Run
+pub mod Within

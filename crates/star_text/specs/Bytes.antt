@@ -34,12 +34,9 @@ isAllowed b = leb 9 b && leb b 13 || leb 32 b && leb b 126
 unfoldable pub classOf : ℕ → ℕ
 classOf b = cond (isBlank b) 2 (cond (isTerminate b) 3 (cond (isPrintable b) 1 0))
 
--- by a lent table: the class of a byte, and whether that is one of allowed bytes, of white space, of line ends, or below another
+-- by a lent table: the class of a byte, and whether that is one of white space, of line ends, or below another
 abbrev pub classIn : List ℕ → ℕ → ℕ
 classIn table b = getD table b 0
-
-abbrev pub allowedIn : List ℕ → ℕ → Bool
-allowedIn table b = leb 1 (classIn table b)
 
 abbrev pub whiteIn : List ℕ → ℕ → Bool
 whiteIn table b = leb 2 (classIn table b)
@@ -67,7 +64,3 @@ run p (b ∷ bs) = cond (p b) (b ∷ run p bs) []
 -- the place of the first byte that is not allowed, or the file's length where there is none
 unfoldable pub firstRefused : List ℕ → ℕ
 firstRefused file = length (run isAllowed file)
-
--- the same by a lent table
-abbrev pub firstRefusedIn : List ℕ → List ℕ → ℕ
-firstRefusedIn table file = length (run (allowedIn table) file)

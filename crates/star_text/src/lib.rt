@@ -3,15 +3,13 @@ ghost use mathlib.Core.Path.{_≡_};
 ghost use mathlib.Core.Bool.{true};
 ghost use Prim.Native.Nat.{ℕ, _+_, _≤_, _<_};
 ghost use lib.ListN.{length, getD, drop};
-ghost use Rattle.star_text.specs.Bytes.{Classes, classIn, allowedIn, terminateIn, whiteIn, belowIn, firstRefusedIn, run};
+ghost use Rattle.star_text.specs.Bytes.{Classes, classIn, terminateIn, whiteIn, belowIn, isAllowed, firstRefused, run};
 ghost use Rattle.star_text.specs.Names.{same as Names·same};
 
 // The most bytes that a file may have.
 pub const MOST_BYTES: usize = 1048576;
 
-// The classes of bytes: not allowed, printable, blank, terminate.
-const REFUSED: u8 = 0;
-
+// Of the classes of bytes, those of white space: 0 is not allowed, 1 printable, 2 blank, 3 terminate.
 const BLANK: u8 = 2;
 
 const TERMINATE: u8 = 3;
@@ -290,13 +288,6 @@ fn class_of(classes: &[u8; 256], b: u8) -> u8
     classes[b as usize]
 }
 
-// Whether a byte is allowed.
-fn is_allowed(classes: &[u8; 256], b: u8) -> bool
-    ensures { λ r. ⌜ r ≡ allowedIn (now (classes .entry)) b ⌝ }
-{
-    REFUSED < class_of(classes, b)
-}
-
 // Whether a byte is white space.
 pub fn is_white(classes: &[u8; 256], b: u8) -> bool
     ensures { λ r. ⌜ r ≡ whiteIn (now (classes .entry)) b ⌝ }
@@ -311,48 +302,79 @@ pub fn is_terminate(classes: &[u8; 256], b: u8) -> bool
     TERMINATE <= class_of(classes, b)
 }
 
-// Answers true only where the four bytes from a place on are allowed.
-fn four_allowed(classes: &[u8; 256], file: &[u8], at: usize) -> bool
-    requires { ⌜ at + 3 < length (now file) ⌝ }
-    ensures { λ r. ⌜ (r ≡ true → (k : ℕ) → k < 4 → allowedIn (now (classes .entry)) (getD (now (file .entry)) (at + k) 0) ≡ true) ⌝ }
+// Whether a byte is allowed: 9 to 13 and 32 to 126.
+fn is_allowed(b: u8) -> bool
+    ensures { λ r. ⌜ r ≡ isAllowed b ⌝ }
 {
-    if !is_allowed(classes, file[at]) {
+    if b < 9 {
         return false;
     }
-    if !is_allowed(classes, file[at + 1]) {
+    if b <= 13 {
+        return true;
+    }
+    if b < 32 {
         return false;
     }
-    if !is_allowed(classes, file[at + 2]) {
+    b <= 126
+}
+
+// The lesser of two bytes.
+fn lesser(a: u8, b: u8) -> u8
+    ensures { λ r. ⌜ (r ≤ a) × (r ≤ b) ⌝ }
+{
+    if a < b { a } else { b }
+}
+
+// The greater of two bytes.
+fn greater(a: u8, b: u8) -> u8
+    ensures { λ r. ⌜ (a ≤ r) × (b ≤ r) ⌝ }
+{
+    if a < b { b } else { a }
+}
+
+// How far a byte lies above 14; bytes below 14 lie far above.
+fn above(b: u8) -> u8
+    ensures { λ r. ⌜ (14 ≤ b → r + 14 ≡ b) ⌝ }
+{
+    std::num::wrapping_sub_u8(b, 14)
+}
+
+// Answers true only where every byte is allowed: none is below 9, above 126, or from 14 to 31.
+fn all_allowed(file: &[u8]) -> bool
+    ensures { λ r. ⌜ (r ≡ true → firstRefused (now (file .entry)) ≡ length (now (file .entry))) ⌝ }
+{
+    let mut low = 255u8;
+    let mut high = 0u8;
+    let mut over = 255u8;
+    let mut at = 0;
+    while at < file.len() {
+        low = lesser(low, file[at]);
+        high = greater(high, file[at]);
+        over = lesser(over, above(file[at]));
+        at += 1;
+    }
+    if low < 9 {
         return false;
     }
-    if !is_allowed(classes, file[at + 3]) {
+    if 126 < high {
+        return false;
+    }
+    if over < 18 {
         return false;
     }
     true
 }
 
-// A place from which on as many bytes are allowed as are left of those that are allowed from the start: four are passed at a time.
-fn skip_allowed(classes: &[u8; 256], file: &[u8]) -> usize
-    ensures { λ r. ⌜ r ≤ length (now (file .entry)) ⌝ }
-    ensures { λ r. ⌜ r + firstRefusedIn (now (classes .entry)) (drop r (now (file .entry))) ≡ firstRefusedIn (now (classes .entry)) (now (file .entry)) ⌝ }
-{
-    let mut at = 0;
-    while file.len() - at > 3 {
-        if !four_allowed(classes, file, at) {
-            return at;
-        }
-        at += 4;
-    }
-    at
-}
-
 // The place of the first byte that is not allowed, or the file's length where there is none.
-pub fn first_refused(classes: &[u8; 256], file: &[u8]) -> usize
-    ensures { λ r. ⌜ r ≡ firstRefusedIn (now (classes .entry)) (now (file .entry)) ⌝ }
+pub fn first_refused(file: &[u8]) -> usize
+    ensures { λ r. ⌜ r ≡ firstRefused (now (file .entry)) ⌝ }
 {
-    let mut at = skip_allowed(classes, file);
+    if all_allowed(file) {
+        return file.len();
+    }
+    let mut at = 0;
     while at < file.len() {
-        if !is_allowed(classes, file[at]) {
+        if !is_allowed(file[at]) {
             return at;
         }
         at += 1;

@@ -1,7 +1,7 @@
 // Names and codes that are taken: the first token that repeats one of its scope. While it is looked for, the kind word of each name or code that was
 // passed holds what it is compared as and, above that, the row of the last one before it in its bucket; the kinds are put back at the end.
 ghost use mathlib.Core.Path.{_≡_};
-ghost use mathlib.Core.Bool.{_&&_};
+ghost use mathlib.Core.Bool.{true, false, _&&_};
 ghost use Prim.Native.Nat.{_+_, _*_, _%_, _≤_, _<_};
 ghost use lib.Dec.{eqb};
 ghost use lib.ListN.{length, getD};
@@ -103,17 +103,34 @@ fn bucket(sort: u32, bytes: &[u8]) -> usize
     h as usize
 }
 
+// Answers true only where two names or codes are not equal: their lengths or their last bytes differ. Those of one bucket often share their first bytes.
+fn ends_differ(a: &[u8], b: &[u8]) -> bool
+    ensures { λ r. ⌜ (r ≡ true → Names·same (now (a .entry)) (now (b .entry)) ≡ false) ⌝ }
+{
+    let len = a.len();
+    if len != b.len() {
+        return true;
+    }
+    if len == 0 {
+        return false;
+    }
+    a[len - 1] != b[len - 1]
+}
+
 // Whether token `m` is marked as of this sort and equal to these bytes.
 fn is_equal(file: &[u8], tokens: &[u32], count: usize, m: usize, sort: u32, bytes: &[u8]) -> bool
     requires { ⌜ Spans (now file) (now tokens) count ⌝ }
     requires { ⌜ m < count ⌝ }
     ensures { λ r. ⌜ r ≡ (eqb (getD (now (tokens .entry)) (m * 3) 0 % 16) sort && Names·same (now (bytes .entry)) (tokenAt (now (file .entry)) m .content)) ⌝ }
 {
-    if tokens[m * 3] % 16 == sort {
-        star_text::same(bytes, span(file, tokens, count, m))
-    } else {
-        false
+    if tokens[m * 3] % 16 != sort {
+        return false;
     }
+    let other = span(file, tokens, count, m);
+    if ends_differ(bytes, other) {
+        return false;
+    }
+    star_text::same(bytes, other)
 }
 
 // Whether a token before `n`, not before `floor`, is of this sort and has these bytes: the rows of their bucket are followed from the last.

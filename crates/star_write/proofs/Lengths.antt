@@ -8,7 +8,7 @@ use borrow.Author.Tests.{leb-true}
 use lib.Dec.{leb}
 use lib.ListN.{length, length-append}
 use Rattle.star_lex.specs.Tokens.{Token, opening, dataWord, saveWord}
-use Rattle.star_lex.specs.Plain.{closing, indent, plainToken}
+use Rattle.star_lex.specs.Plain.{newline, closing, indent, plainToken}
 
 short-cond : (most : ℕ) (b : Bool) (xs ys : List ℕ) → leb (length xs) most ≡ true → leb (length ys) most ≡ true
     → leb (length (cond b xs ys)) most ≡ true
@@ -19,18 +19,18 @@ pub short-opening : (kind : ℕ) → length (opening kind) ≤ 5
 unfolding opening dataWord saveWord
 short-opening kind = leb-true _ _ (search short-cond depth 8)
 
-pub short-closing : (kind : ℕ) → length (closing kind) ≤ 2
-unfolding closing
-short-closing kind = leb-true _ _ (search short-cond depth 8)
+pub short-closing : (kind : ℕ) (content : List ℕ) → length (closing kind content) ≤ 2
+unfolding closing newline
+short-closing kind content = leb-true _ _ (search short-cond depth 8)
 
 pub short-indent : (t : Token) → length (indent t) ≤ 1
 unfolding indent
 short-indent t = leb-true _ _ (search short-cond depth 8)
 
 pub length-plain : (t : Token)
-    → length (plainToken t) ≡ length (indent t) + length (opening (t .kind)) + length (t .content) + length (closing (t .kind)) + 1
+    → length (plainToken t) ≡ length (indent t) + length (opening (t .kind)) + length (t .content) + length (closing (t .kind) (t .content)) + 1
 unfolding plainToken
 length-plain t = simp length-append (omega arith)
 
 pub short-plain : (t : Token) → length (plainToken t) ≤ length (t .content) + 9
-short-plain t = omega (arith, length-plain t, short-indent t, short-opening (t .kind), short-closing (t .kind))
+short-plain t = omega (arith, length-plain t, short-indent t, short-opening (t .kind), short-closing (t .kind) (t .content))

@@ -50,9 +50,9 @@ fn put_opening(out: &mut [u8], at: usize, kind: u32) -> usize
 }
 
 // Puts what stands after a token's content.
-fn put_closing(out: &mut [u8], at: usize, kind: u32) -> usize
-    requires { ⌜ at + length (closing kind) ≤ length (now out) ⌝ }
-    ensures { λ r. ⌜ Put (closing kind) at (now (out .entry)) (now (out .exit)) r ⌝ }
+fn put_closing(out: &mut [u8], at: usize, kind: u32, content: &[u8]) -> usize
+    requires { ⌜ at + length (closing kind (now content)) ≤ length (now out) ⌝ }
+    ensures { λ r. ⌜ Put (closing kind (now (content .entry))) at (now (out .entry)) (now (out .exit)) r ⌝ }
 {
     match kind {
         9 => room::put_bytes(out, at, b"'"),
@@ -70,7 +70,7 @@ pub(crate) fn put_token(out: &mut [u8], kind: u32, content: &[u8]) -> usize
     let indented = put_indent(out, 0, kind, content);
     let opened = put_opening(out, indented, kind);
     let filled = room::put_bytes(out, opened, content);
-    let closed = put_closing(out, filled, kind);
+    let closed = put_closing(out, filled, kind, content);
     room::put_bytes(out, closed, b"\n")
 }
 
@@ -82,8 +82,8 @@ fn indent_length(kind: u32, content: &[u8]) -> usize
 }
 
 // How many bytes stand after a token's content.
-fn closing_length(kind: u32) -> usize
-    ensures { λ r. ⌜ r ≡ length (closing kind) ⌝ }
+fn closing_length(kind: u32, content: &[u8]) -> usize
+    ensures { λ r. ⌜ r ≡ length (closing kind (now (content .entry))) ⌝ }
 {
     match kind {
         9 => 1,
@@ -98,5 +98,5 @@ pub(crate) fn token_length(kind: u32, content: &[u8]) -> usize
     ensures { λ r. ⌜ r ≡ length (plainToken (tokenOf kind (now (content .entry)))) ⌝ }
 {
     let start = indent_length(kind, content) + star_lex::word::lead(kind);
-    start + content.len() + closing_length(kind) + 1
+    start + content.len() + closing_length(kind, content) + 1
 }

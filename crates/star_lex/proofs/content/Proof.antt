@@ -5,6 +5,7 @@ use Prim.Native.Nat.{_+_, _*_, _≤_}
 use native.Mathlib.Omega.{arith}
 use lib.ListN.{length, getD}
 use borrow.Author.Tests.{not-true, not-false}
+use Rattle.star_rows.specs.Widths.{tokenWidth}
 use Rattle.star_lex.specs.Found.{isSome}
 use Rattle.star_lex.specs.Table.{contentIn, orEmpty, further}
 use Rattle.star_lex.proofs.Table.{Spans, content-inside, content-whole, start-some, start-none, empty-none}
@@ -49,7 +50,7 @@ shared-slice-read-start : tie.Need-shared-slice-read-start
 shared-slice-read-start c = omega (arith, inside (c .before) .row)
 
 cast-start : tie.Need-cast-start
-cast-start c = omega (arith, c .shared-slice-known3 .given (entry (c .before) .args .n * 3 + 1))
+cast-start c = omega (arith, c .shared-slice-known3 .given (entry (c .before) .args .n * tokenWidth + 1))
 
 mul-end : tie.Need-mul-end
 mul-end c = omega (arith, inside (c .before) .row)
@@ -64,7 +65,7 @@ shared-slice-read-end : tie.Need-shared-slice-read-end
 shared-slice-read-end c = omega (arith, inside (c .before .before) .row)
 
 cast-end : tie.Need-cast-end
-cast-end c = omega (arith, c .shared-slice-known4 .given (entry (c .before .before) .args .n * 3 + 2))
+cast-end c = omega (arith, c .shared-slice-known4 .given (entry (c .before .before) .args .n * tokenWidth + 2))
 
 sub-result-2 : tie.Need-sub-result-2
 sub-result-2 c = inside (c .before .before) .ordered

@@ -2,6 +2,7 @@
 use mathlib.Core.Path.{sym, _∙_}
 use Prim.Native.Nat.{_+_, _-_, _*_}
 use native.Mathlib.Omega.{arith}
+use Rattle.star_rows.specs.Widths.{tokenWidth}
 use Rattle.star_lex.proofs.Table.{first-row, first-none}
 use borrow.Author.Needs.{needs}
 use Rattle.star_lex.proofs.first_byte.Statement.{statement}
@@ -23,7 +24,7 @@ shared-slice-read-start : tie.Need-shared-slice-read-start
 shared-slice-read-start c = search needs
 
 cast-start : tie.Need-cast-start
-cast-start c = omega (arith, c .shared-slice-known2 .given (c .before .before .before .args .n * 3 + 1))
+cast-start c = omega (arith, c .shared-slice-known2 .given (c .before .before .before .args .n * tokenWidth + 1))
 
 mul-lead : tie.Need-mul-lead
 mul-lead c = search needs
@@ -41,7 +42,7 @@ returns-2 : tie.Need-returns-2
 returns-2 c = sym (first-row _ _ (omega arith) ∙ omega (arith, c .before .lead .ensures))
 
 cast-result : tie.Need-cast-result
-cast-result c = omega (arith, c .before .before .before .shared-slice-known2 .given (c .before .before .before .before .before .before .args .n * 3 + 1))
+cast-result c = omega (arith, c .before .before .before .shared-slice-known2 .given (c .before .before .before .before .before .before .args .n * tokenWidth + 1))
 
 returns-3 : tie.Need-returns-3
 returns-3 c = sym (first-row _ _ (omega arith) ∙ omega (arith, c .before .lead .ensures))

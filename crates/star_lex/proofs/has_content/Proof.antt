@@ -2,6 +2,7 @@
 use mathlib.Core.Path.{sym, _∙_, ap}
 use Prim.Native.Nat.{_+_, _*_}
 use native.Mathlib.Omega.{arith}
+use Rattle.star_rows.specs.Widths.{tokenWidth}
 use Rattle.star_lex.specs.Found.{isSome}
 use Rattle.star_lex.proofs.Table.{part-backward, part-some, content-row, content-none}
 use borrow.Author.Needs.{needs}
@@ -41,7 +42,7 @@ unfolding isSome
 returns-2 c = sym (ap isSome (content-row _ _ _ (omega arith) ∙ part-backward _ _ _ (c .if2 .taken)))
 
 cast-result : tie.Need-cast-result
-cast-result c = omega (arith, c .before .shared-slice-known2 .given (c .before .before .before .before .args .n * 3 + 2))
+cast-result c = omega (arith, c .before .shared-slice-known2 .given (c .before .before .before .before .args .n * tokenWidth + 2))
 
 returns-3 : tie.Need-returns-3
 returns-3 c = sym (ap isSome (content-row _ _ _ (omega arith)) ∙ part-some _ _ _ (c .if2 .left))

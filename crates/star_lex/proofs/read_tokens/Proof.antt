@@ -4,8 +4,7 @@ use Prim.Native.Nat.{_*_}
 use native.Mathlib.Omega.{arith}
 use borrow.Author.Needs.{needs}
 use lib.ListN.{length, replicate}
-use Rattle.star_text.specs.Bytes.{firstRefused}
-use Rattle.star_text.proofs.Classes.{first-refused-is}
+use Rattle.star_rows.specs.Widths.{tokenWidth}
 use Rattle.star_rows.specs.Rows.{clearedFrom}
 use Rattle.star_rows.proofs.Stored.{stored-holding}
 use Rattle.star_lex.specs.Tokens.{tokenRow}
@@ -32,20 +31,8 @@ returns c =
       table = c .before .before .refuse .ensures .1 ∙ sym (ap (λ s. tableOf s (length (start .args .table .now))) t);
     }
 
-class-table-requires : tie.Need-class-table-requires
-class-table-requires c κs = search needs
-
 first-refused-requires : tie.Need-first-refused-requires
 first-refused-requires c κs = search needs
-
-abbrev start : tie.After-first-refused → tie.Start
-start c = c .before .before .before .before .before .before
-
-first-bad : (c : tie.After-first-refused) → c .first-refused .result ≡ firstRefused (start c .args .file .now)
-first-bad c =
-    let at-shared-slice-known = c .before .before .before .before .before in
-    c .first-refused .ensures
-    ∙ first-refused-is (c .before .before .class-table .ensures) _ (λ i. omega (arith, at-shared-slice-known .shared-slice-known .given i))
 
 cast-refuse : tie.Need-cast-refuse
 cast-refuse c = search needs
@@ -59,13 +46,18 @@ same-length-2 c = search needs
 returns-2 : tie.Need-returns-2
 unfolding tableOf then
 returns-2 c =
-    let at-if1 = c .before .before .before .before .before .before .before .before in
+    let at-first-refused = c .before .before .before .before .before in
+    let at-if1 = at-first-refused .before in
     let start = at-if1 .before .before .before in
-    let t = tokens-refused-byte (start .args .file .now) (length (start .args .table .now)) (at-if1 .if1 .left) (rw (first-bad (c .before .before .before .before .before)) at (c .before .before .before .before .if2 .taken)) in
+    let first = at-first-refused .first-refused .ensures in
+    let t = tokens-refused-byte (start .args .file .now) (length (start .args .table .now)) (at-if1 .if1 .left) (rw first at (c .before .before .before .before .if2 .taken)) in
     record {
-      answer = c .before .before .refuse2 .ensures .0 ∙ ap (λ n. splitAnswer (refused 2 n)) (first-bad (c .before .before .before .before .before)) ∙ sym (ap splitAnswer t);
+      answer = c .before .before .refuse2 .ensures .0 ∙ ap (λ n. splitAnswer (refused 2 n)) first ∙ sym (ap splitAnswer t);
       table = c .before .before .refuse2 .ensures .1 ∙ sym (ap (λ s. tableOf s (length (start .args .table .now))) t);
     }
+
+class-table-requires : tie.Need-class-table-requires
+class-table-requires c κs = search needs
 
 split-requires : tie.Need-split-requires
 split-requires c κs = search needs
@@ -80,10 +72,10 @@ returns-3 : tie.Need-returns-3
 unfolding tableOf then
 returns-3 c =
     let at-split = c .before .before .before .before .before .before .before .before in
-    let at-if2 = at-split .before .before .before in
-    let at-if1 = at-if2 .before .before .before .before in
+    let at-if2 = at-split .before .before .before .before in
+    let at-if1 = at-if2 .before .before in
     let start = at-if1 .before .before .before in
-    let t = tokens-split (start .args .file .now) (length (start .args .table .now)) (at-if1 .if1 .left) (rw (first-bad (c .before .before .before .before .before .before .before .before .before .before .before .before)) at (at-if2 .if2 .left)) ∙ ap (λ s. then s (tokensFit (length (start .args .table .now)))) (answer-refused _ (at-split .split .result) (at-split .split .ensures .0) (c .before .before .before .before .if3 .taken)) in
+    let t = tokens-split (start .args .file .now) (length (start .args .table .now)) (at-if1 .if1 .left) (rw (at-if2 .before .first-refused .ensures) at (at-if2 .if2 .left)) ∙ ap (λ s. then s (tokensFit (length (start .args .table .now)))) (answer-refused _ (at-split .split .result) (at-split .split .ensures .0) (c .before .before .before .before .if3 .taken)) in
     record {
       answer = c .before .before .refuse3 .ensures .0 ∙ sym (ap splitAnswer t);
       table = c .before .before .refuse3 .ensures .1 ∙ ap (λ n. replicate n 0) (at-split .split .kept .1 .1 .0) ∙ sym (ap (λ s. tableOf s (length (start .args .table .now))) t);
@@ -103,12 +95,12 @@ unfolding tableOf then
 returns-4 c =
     let at-if3 = c .before .before .before .before .before .before in
     let at-split = at-if3 .before .before .before .before in
-    let at-if2 = at-split .before .before .before in
-    let at-if1 = at-if2 .before .before .before .before in
+    let at-if2 = at-split .before .before .before .before in
+    let at-if1 = at-if2 .before .before in
     let start = at-if1 .before .before .before in
     let (ps, q, r) = answer-accepted (start .args .file .now) (at-split .split .result) (at-split .split .ensures .0) (at-if3 .if3 .left) in
     let k : length (at-split .split .last .1 .1 .0) ≡ (length (start .args .table .now)) = at-split .split .kept .1 .1 .0 in
-    let t = tokens-split (start .args .file .now) (length (start .args .table .now)) (at-if1 .if1 .left) (rw (first-bad (c .before .before .before .before .before .before .before .before .before .before .before .before .before .before)) at (at-if2 .if2 .left)) ∙ ap (λ s. then s (tokensFit (length (start .args .table .now)))) q ∙ table-full (length (start .args .table .now)) ps (omega (arith, c .before .before .before .before .if4 .taken)) in
+    let t = tokens-split (start .args .file .now) (length (start .args .table .now)) (at-if1 .if1 .left) (rw (at-if2 .before .first-refused .ensures) at (at-if2 .if2 .left)) ∙ ap (λ s. then s (tokensFit (length (start .args .table .now)))) q ∙ table-full (length (start .args .table .now)) ps (omega (arith, c .before .before .before .before .if4 .taken)) in
     record {
       answer = c .before .before .refuse4 .ensures .0 ∙ sym (ap splitAnswer t);
       table = c .before .before .refuse4 .ensures .1 ∙ ap (λ n. replicate n 0) k ∙ sym (ap (λ s. tableOf s (length (start .args .table .now))) t);
@@ -129,18 +121,18 @@ returns-5 c =
     let at-if4 = c .before .before .before .before in
     let at-if3 = at-if4 .before .before in
     let at-split = at-if3 .before .before .before .before in
-    let at-if2 = at-split .before .before .before in
-    let at-if1 = at-if2 .before .before .before .before in
+    let at-if2 = at-split .before .before .before .before in
+    let at-if1 = at-if2 .before .before in
     let start = at-if1 .before .before .before in
     let (ps, q, r) = answer-accepted (start .args .file .now) (at-split .split .result) (at-split .split .ensures .0) (at-if3 .if3 .left) in
     let k : length (at-split .split .last .1 .1 .0) ≡ (length (start .args .table .now)) = at-split .split .kept .1 .1 .0 in
-    let t = tokens-split (start .args .file .now) (length (start .args .table .now)) (at-if1 .if1 .left) (rw (first-bad (c .before .before .before .before .before .before .before .before .before .before .before .before .before .before)) at (at-if2 .if2 .left)) ∙ ap (λ s. then s (tokensFit (length (start .args .table .now)))) q ∙ table-room (length (start .args .table .now)) ps (omega (arith, at-if4 .if4 .left)) in
+    let t = tokens-split (start .args .file .now) (length (start .args .table .now)) (at-if1 .if1 .left) (rw (at-if2 .before .first-refused .ensures) at (at-if2 .if2 .left)) ∙ ap (λ s. then s (tokensFit (length (start .args .table .now)))) q ∙ table-room (length (start .args .table .now)) ps (omega (arith, at-if4 .if4 .left)) in
     record {
       answer = at-split .split .ensures .0 ∙ ap splitAnswer q ∙ sym (ap splitAnswer t);
       table = c .before .before .clear-from .ensures
-          ∙ ap (λ n. clearedFrom (n * 3) (at-split .split .last .1 .1 .0)) r
-          ∙ ap (clearedFrom (length ps * 3)) (at-split .split .ensures .1 ps q)
-          ∙ stored-holding 3 tokenRow row-wide (omega arith) ps (start .args .table .now) (omega (arith, at-if4 .if4 .left))
+          ∙ ap (λ n. clearedFrom (n * tokenWidth) (at-split .split .last .1 .1 .0)) r
+          ∙ ap (clearedFrom (length ps * tokenWidth)) (at-split .split .ensures .1 ps q)
+          ∙ stored-holding tokenWidth tokenRow row-wide (omega arith) ps (start .args .table .now) (omega (arith, at-if4 .if4 .left))
           ∙ sym (ap (λ s. tableOf s (length (start .args .table .now))) t);
     }
 
@@ -151,12 +143,12 @@ read-tokens-spec =
     refuse-requires
     same-length
     returns
-    class-table-requires
     first-refused-requires
     cast-refuse
     refuse-requires-2
     same-length-2
     returns-2
+    class-table-requires
     split-requires
     refuse-requires-3
     same-length-3

@@ -6,6 +6,7 @@ use borrow.Author.Needs.{needs}
 use lib.ListN.{length, getD}
 use Rattle.star_text.specs.Bytes.{isTerminate}
 use Rattle.star_text.proofs.Classes.{terminate-is}
+use Rattle.star_rows.specs.Widths.{tokenWidth}
 use Rattle.star_rows.specs.Rows.{stored}
 use Rattle.star_rows.proofs.Stored.{length-stored}
 use Rattle.star_lex.specs.Tokens.{tokenRow}
@@ -122,7 +123,7 @@ same-length : tie.Need-same-length Inv-loop μ-loop
 same-length c =
     let at-loop = c .before .before .before .before .before .before .before in
     let start = at-loop .before .before .before in
-    ap length (at-loop .loop .inv .rows) ∙ length-stored 3 tokenRow row-wide (omega arith) (at-loop .loop .inv .done) (start .args .table .now)
+    ap length (at-loop .loop .inv .rows) ∙ length-stored tokenWidth tokenRow row-wide (omega arith) (at-loop .loop .inv .done) (start .args .table .now)
 
 -- the answer of an accepted file
 abbrev answer : ℕ → Tokens
@@ -141,7 +142,7 @@ cast-t24 : tie.Need-cast-t24 Inv-loop μ-loop
 cast-t24 c = omega (arith, c .before .loop .inv .few, c .before .loop .inv .inside, c .before .before .before .before .pre .0)
 
 same-length-2 : tie.Need-same-length-2 Inv-loop μ-loop
-same-length-2 c = ap length (c .before .loop .inv .rows) ∙ length-stored 3 tokenRow row-wide (omega arith) (c .before .loop .inv .done) (c .before .before .before .before .args .table .now)
+same-length-2 c = ap length (c .before .loop .inv .rows) ∙ length-stored tokenWidth tokenRow row-wide (omega arith) (c .before .loop .inv .done) (c .before .before .before .before .args .table .now)
 
 returns-2 : tie.Need-returns-2 Inv-loop μ-loop
 unfolding splitAnswer refusalOf placeOf placed
@@ -150,7 +151,7 @@ returns-2 c =
     let p = c .before .loop .inv in
     let f = finished (start .args .file .now) (start .args .table .now) (c .before .loop .table) (c .before .loop .at) (c .before .loop .count) (c .before .loop .line) (c .before .loop .inv) (omega arith) in (
       ap (λ n. answer n) (p .counted) ∙ sym (ap splitAnswer f),
-      λ ps e. let q : p .done ≡ ps = cc in p .rows ∙ ap (λ d. stored 3 tokenRow d (start .args .table .now)) q,
+      λ ps e. let q : p .done ≡ ps = cc in p .rows ∙ ap (λ d. stored tokenWidth tokenRow d (start .args .table .now)) q,
     )
 
 pub split-spec : {M : Type 1} → statement M

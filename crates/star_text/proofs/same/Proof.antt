@@ -1,10 +1,10 @@
 -- `same` meets its contract: the answer from the present place on is the answer from the start.
-use mathlib.Core.Path.{_≡_, refl, sym, _∙_, ap}
+use mathlib.Core.Path.{_≡_, refl, sym, _∙_}
 use Prim.Native.Nat.{_-_, _≤_}
 use native.Mathlib.Omega.{arith}
 use lib.ListN.{length, drop}
 use Rattle.star_text.specs.Names.{key, equal, same}
-use Rattle.star_text.proofs.Names.{unequal, equal-next, equal-differs, equal-end}
+use Rattle.star_text.proofs.Names.{same-lengths, equal-next, equal-differs, equal-end}
 use Rattle.star_text.proofs.same.Statement.{statement}
 use Rattle.star_text.proofs.same.Tie as tie
 
@@ -15,8 +15,7 @@ abbrev μ-loop : tie.MeasureT-loop
 μ-loop a b i₀ i = length a - i
 
 returns : tie.Need-returns Inv-loop μ-loop
-unfolding same key
-returns c = sym (unequal _ _ (λ e. c .if1 .taken (ap length e)))
+returns c = sym (same-lengths _ _ (c .if1 .taken))
 
 loop-holds : tie.Need-loop-holds Inv-loop μ-loop
 unfolding same key

@@ -1,5 +1,5 @@
--- `is_equal` meets its contract, by the test on the sort and the comparison of the bytes.
-use mathlib.Core.Path.{_∙_}
+-- `is_equal` meets its contract, by the test on the sort, the look at the ends and the comparison of the bytes.
+use mathlib.Core.Path.{sym, _∙_}
 use borrow.Author.Tests.{eq-eqb, ne-eqb}
 use native.Mathlib.Omega.{arith}
 use borrow.Author.Needs.{needs}
@@ -19,17 +19,27 @@ mul-if1-2 c = omega (arith, held (c .before .before .before) .room)
 shared-slice-read-if1 : tie.Need-shared-slice-read-if1
 shared-slice-read-if1 c = omega (arith, held (c .before .before .before .before) .room)
 
+returns : tie.Need-returns
+returns c = rw (ne-eqb _ _ (c .if1 .taken))
+
 span-requires : tie.Need-span-requires
 span-requires c κs = search needs
+
+ends-differ-requires : tie.Need-ends-differ-requires
+ends-differ-requires c κs = search needs
+
+returns-2 : tie.Need-returns-2
+returns-2 c =
+    let at-span = c .before .before in
+    rw (eq-eqb _ _ (at-span .before .if1 .left), ← at-span .span .ensures) (sym (c .before .ends-differ .ensures (c .if2 .taken)))
 
 same-requires : tie.Need-same-requires
 same-requires c κs = search needs
 
-returns : tie.Need-returns
-returns c = c .same .ensures ∙ rw (eq-eqb _ _ (c .before .before .if1 .taken), c .before .span .ensures)
-
-returns-2 : tie.Need-returns-2
-returns-2 c = rw (ne-eqb _ _ (c .if1 .left))
+returns-3 : tie.Need-returns-3
+returns-3 c =
+    let at-span = c .before .before .before in
+    c .same .ensures ∙ rw (eq-eqb _ _ (at-span .before .if1 .left), at-span .span .ensures)
 
 pub is-equal-spec : {M : Type 1} → statement M
 is-equal-spec =
@@ -38,7 +48,9 @@ is-equal-spec =
     mul-if1
     mul-if1-2
     shared-slice-read-if1
-    span-requires
-    same-requires
     returns
-    returns-2)
+    span-requires
+    ends-differ-requires
+    returns-2
+    same-requires
+    returns-3)

@@ -21,25 +21,43 @@ loop-holds : tie.Need-loop-holds Inv-loop μ-loop
 loop-holds c = (omega arith, c .before .before .pre .0, refl)
 
 mul-kind-of : tie.Need-mul-kind-of Inv-loop μ-loop
-mul-kind-of c = omega (arith, marked-room _ _ _ _ _ (c .before .loop .inv .1) (omega arith) (c .before .before .before .before .pre .1), count-small _ _ _ (c .before .before .before .before .pre .0 .spans .table), c .before .before .before .before .pre .1)
+mul-kind-of c =
+    let at-loop = c .before in
+    let start = at-loop .before .before .before in
+    omega (arith, marked-room _ _ _ _ _ (at-loop .loop .inv .1) (omega arith) (start .pre .1), count-small _ _ _ (start .pre .0 .spans .table), start .pre .1)
 
 mul-kind-of-2 : tie.Need-mul-kind-of-2 Inv-loop μ-loop
-mul-kind-of-2 c = omega (arith, marked-room _ _ _ _ _ (c .before .loop .inv .1) (omega arith) (c .before .before .before .before .pre .1), count-small _ _ _ (c .before .before .before .before .pre .0 .spans .table), c .before .before .before .before .pre .1)
+mul-kind-of-2 c =
+    let at-loop = c .before in
+    let start = at-loop .before .before .before in
+    omega (arith, marked-room _ _ _ _ _ (at-loop .loop .inv .1) (omega arith) (start .pre .1), count-small _ _ _ (start .pre .0 .spans .table), start .pre .1)
 
 slice-read-kind-of : tie.Need-slice-read-kind-of Inv-loop μ-loop
-slice-read-kind-of c = omega (arith, marked-room _ _ _ _ _ (c .before .before .loop .inv .1) (omega arith) (c .before .before .before .before .before .pre .1), count-small _ _ _ (c .before .before .before .before .before .pre .0 .spans .table), c .before .before .before .before .before .pre .1)
+slice-read-kind-of c =
+    let at-loop = c .before .before in
+    let start = at-loop .before .before .before in
+    omega (arith, marked-room _ _ _ _ _ (at-loop .loop .inv .1) (omega arith) (start .pre .1), count-small _ _ _ (start .pre .0 .spans .table), start .pre .1)
 
 kind-of-requires : tie.Need-kind-of-requires Inv-loop μ-loop
 kind-of-requires c κs = search needs
 
 mul-tokens : tie.Need-mul-tokens Inv-loop μ-loop
-mul-tokens c = omega (arith, marked-room _ _ _ _ _ (c .before .before .before .loop .inv .1) (omega arith) (c .before .before .before .before .before .before .pre .1), count-small _ _ _ (c .before .before .before .before .before .before .pre .0 .spans .table), c .before .before .before .before .before .before .pre .1)
+mul-tokens c =
+    let at-loop = c .before .before .before in
+    let start = at-loop .before .before .before in
+    omega (arith, marked-room _ _ _ _ _ (at-loop .loop .inv .1) (omega arith) (start .pre .1), count-small _ _ _ (start .pre .0 .spans .table), start .pre .1)
 
 mul-tokens-2 : tie.Need-mul-tokens-2 Inv-loop μ-loop
-mul-tokens-2 c = omega (arith, marked-room _ _ _ _ _ (c .before .before .before .loop .inv .1) (omega arith) (c .before .before .before .before .before .before .pre .1), count-small _ _ _ (c .before .before .before .before .before .before .pre .0 .spans .table), c .before .before .before .before .before .before .pre .1)
+mul-tokens-2 c =
+    let at-loop = c .before .before .before in
+    let start = at-loop .before .before .before in
+    omega (arith, marked-room _ _ _ _ _ (at-loop .loop .inv .1) (omega arith) (start .pre .1), count-small _ _ _ (start .pre .0 .spans .table), start .pre .1)
 
 slice-write-tokens : tie.Need-slice-write-tokens Inv-loop μ-loop
-slice-write-tokens c = omega (arith, marked-room _ _ _ _ _ (c .before .before .before .loop .inv .1) (omega arith) (c .before .before .before .before .before .before .pre .1), count-small _ _ _ (c .before .before .before .before .before .before .pre .0 .spans .table), c .before .before .before .before .before .before .pre .1)
+slice-write-tokens c =
+    let at-loop = c .before .before .before in
+    let start = at-loop .before .before .before in
+    omega (arith, marked-room _ _ _ _ _ (at-loop .loop .inv .1) (omega arith) (start .pre .1), count-small _ _ _ (start .pre .0 .spans .table), start .pre .1)
 
 add-n : tie.Need-add-n Inv-loop μ-loop
 add-n c = omega arith

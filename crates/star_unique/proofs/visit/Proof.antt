@@ -1,6 +1,6 @@
 -- `visit` meets its contract: the token's sort, bucket and scope say where it is looked for.
 use mathlib.Core.Path.{_≡_, sym, _∙_, ap}
-use Prim.Native.Nat.{ℕ, _*_}
+use Prim.Native.Nat.{ℕ, _*_, _≤_, _<_}
 use native.Mathlib.Omega.{arith}
 use lib.ListN.{getD}
 use borrow.Author.Needs.{needs}
@@ -37,47 +37,70 @@ span-requires c κs = search needs
 bucket-requires : tie.Need-bucket-requires
 bucket-requires c κs = search needs
 
+abbrev start : tie.After-bucket → tie.Start
+start c = c .before .before .before .before .before .before .before .before .before
+
+abbrev at-sort : tie.After-bucket → tie.After-sort-of
+at-sort c = c .before .before .before .before
+
+-- the sort, the bucket and its last row are those of the token
+sort-right : (c : tie.After-bucket) → at-sort c .sort-of .result ≡ sortAt (tokenAt (start c .args .file .now)) (start c .args .n)
+sort-right c = sort-is (start c) _ (at-sort c .sort-of .ensures)
+
+bucket-right : (c : tie.After-bucket) → c .bucket .result < 4096
+bucket-right c =
+    let s = start c in
+    bucket-small _ _ _ _ _ (s .pre .0) (s .pre .1 .0) (s .pre .1 .1 .0) _ (sort-right c) (c .before .before .before .if1 .left) _ (c .before .span .ensures) _ (c .bucket .ensures)
+
+last-right : (c : tie.After-bucket) → getD (start c .args .heads .now) (c .bucket .result) 0 ≤ start c .args .n
+last-right c =
+    let s = start c in
+    last-small _ _ _ _ _ (s .pre .0) (s .pre .1 .0) (s .pre .1 .1 .0) _ (sort-right c) (c .before .before .before .if1 .left) _ (c .before .span .ensures) _ (c .bucket .ensures)
+
+sort-few : (c : tie.After-bucket) → at-sort c .sort-of .result < 16
+sort-few c =
+    let s = start c in
+    sort-small _ _ _ _ _ (s .pre .0) (s .pre .1 .0) (s .pre .1 .1 .0) _ (sort-right c) (c .before .before .before .if1 .left) _ (c .before .span .ensures) _ (c .bucket .ensures)
+
 mul-last : tie.Need-mul-last
-mul-last c =
-    let start = c .before .before .before .before .before .before .before .before .before in
-    let es : c .before .before .before .before .sort-of .result ≡ sortAt (tokenAt (start .args .file .now)) (start .args .n) = sort-is start _ (c .before .before .before .before .sort-of .ensures) in
-    omega (arith, bucket-small _ _ _ _ _ (start .pre .0) (start .pre .1 .0) (start .pre .1 .1 .0) _ es (c .before .before .before .if1 .left) _ (c .before .span .ensures) _ (c .bucket .ensures))
+mul-last c = omega (arith, bucket-right c)
 
 slice-read-last : tie.Need-slice-read-last
-slice-read-last c =
-    let start = c .before .before .before .before .before .before .before .before .before .before in
-    let es : c .before .before .before .before .before .sort-of .result ≡ sortAt (tokenAt (start .args .file .now)) (start .args .n) = sort-is start _ (c .before .before .before .before .before .sort-of .ensures) in
-    omega (arith, bucket-small _ _ _ _ _ (start .pre .0) (start .pre .1 .0) (start .pre .1 .1 .0) _ es (c .before .before .before .before .if1 .left) _ (c .before .before .span .ensures) _ (c .before .bucket .ensures), start .pre .1 .0 .size)
+slice-read-last c = omega (arith, bucket-right (c .before), start (c .before) .pre .1 .0 .size)
 
 floor-of-requires : tie.Need-floor-of-requires
 floor-of-requires c κs = search needs
 
 follow-requires : tie.Need-follow-requires
 follow-requires c κs =
-    let start = c .before .before .before .before .before .before .before .before .before .before .before .before in
-    let es : c .before .before .before .before .before .before .before .sort-of .result ≡ sortAt (tokenAt (start .args .file .now)) (start .args .n) = sort-is start _ (c .before .before .before .before .before .before .before .sort-of .ensures) in
-    (start .pre .0, (omega (arith, start .pre .1 .1 .0), (c .before .before .before .before .before .before .if1 .left, last-here _ _ _ _ _ (start .pre .0) (start .pre .1 .0) (start .pre .1 .1 .0) _ es (c .before .before .before .before .before .before .if1 .left) _ (c .before .before .before .before .span .ensures) _ (c .before .before .before .bucket .ensures))))
+    let at-bucket = c .before .before .before in
+    let s = start at-bucket in
+    let named = at-bucket .before .before .before .if1 .left in
+    let last = last-here _ _ _ _ _ (s .pre .0) (s .pre .1 .0) (s .pre .1 .1 .0) _ (sort-right at-bucket) named _ (at-bucket .before .span .ensures) _ (at-bucket .bucket .ensures) in
+    (s .pre .0, (omega (arith, s .pre .1 .1 .0), (named, last)))
 
 same-length : tie.Need-same-length
 same-length c = search needs
 
 returns-2 : tie.Need-returns-2
 returns-2 c =
-    let start = c .before .before .before .before .before .before .before .before .before .before .before .before .before .before in
-    let es : c .before .before .before .before .before .before .before .before .before .sort-of .result ≡ sortAt (tokenAt (start .args .file .now)) (start .args .n) = sort-is start _ (c .before .before .before .before .before .before .before .before .before .sort-of .ensures) in
-    visit-taken _ _ _ _ _ (start .pre .0) (start .pre .1 .0) (start .pre .1 .1 .0) _ es (c .before .before .before .before .before .before .before .before .if1 .left) _ (c .before .before .before .before .before .before .span .ensures) _ (c .before .before .before .before .before .bucket .ensures) _ (c .before .before .floor-of .ensures ∙ ap (λ u. floorOf u (c .before .before .before .before .before .before .before .before .before .sort-of .result)) (start .pre .1 .1 .1)) (sym (c .if2 .taken) ∙ c .before .follow .ensures)
+    let at-bucket = c .before .before .before .before .before in
+    let s = start at-bucket in
+    let floor = c .before .before .floor-of .ensures ∙ ap (λ u. floorOf u (at-sort at-bucket .sort-of .result)) (s .pre .1 .1 .1) in
+    visit-taken _ _ _ _ _ (s .pre .0) (s .pre .1 .0) (s .pre .1 .1 .0) _ (sort-right at-bucket) (at-bucket .before .before .before .if1 .left) _ (at-bucket .before .span .ensures) _ (at-bucket .bucket .ensures) _ floor
+    (sym (c .if2 .taken) ∙ c .before .follow .ensures)
 
 mul-tokens : tie.Need-mul-tokens
 mul-tokens c =
-    let start = c .before .before .before .before .before .before .before .before .before .before .before .before .before .before in
-    let es : c .before .before .before .before .before .before .before .before .before .sort-of .result ≡ sortAt (tokenAt (start .args .file .now)) (start .args .n) = sort-is start _ (c .before .before .before .before .before .before .before .before .before .sort-of .ensures) in
-    omega (arith, last-small _ _ _ _ _ (start .pre .0) (start .pre .1 .0) (start .pre .1 .1 .0) _ es (c .before .before .before .before .before .before .before .before .if1 .left) _ (c .before .before .before .before .before .before .span .ensures) _ (c .before .before .before .before .before .bucket .ensures), sort-small _ _ _ _ _ (start .pre .0) (start .pre .1 .0) (start .pre .1 .1 .0) _ es (c .before .before .before .before .before .before .before .before .if1 .left) _ (c .before .before .before .before .before .before .span .ensures) _ (c .before .before .before .before .before .bucket .ensures), start .pre .1 .1 .0, count-small _ _ _ (start .pre .0 .spans .table))
+    let at-bucket = c .before .before .before .before .before in
+    let s = start at-bucket in
+    omega (arith, last-right at-bucket, sort-few at-bucket, s .pre .1 .1 .0, count-small _ _ _ (s .pre .0 .spans .table))
 
 add-tokens : tie.Need-add-tokens
 add-tokens c =
-    let start = c .before .before .before .before .before .before .before .before .before .before .before .before .before .before in
-    let es : c .before .before .before .before .before .before .before .before .before .sort-of .result ≡ sortAt (tokenAt (start .args .file .now)) (start .args .n) = sort-is start _ (c .before .before .before .before .before .before .before .before .before .sort-of .ensures) in
-    omega (arith, last-small _ _ _ _ _ (start .pre .0) (start .pre .1 .0) (start .pre .1 .1 .0) _ es (c .before .before .before .before .before .before .before .before .if1 .left) _ (c .before .before .before .before .before .before .span .ensures) _ (c .before .before .before .before .before .bucket .ensures), sort-small _ _ _ _ _ (start .pre .0) (start .pre .1 .0) (start .pre .1 .1 .0) _ es (c .before .before .before .before .before .before .before .before .if1 .left) _ (c .before .before .before .before .before .before .span .ensures) _ (c .before .before .before .before .before .bucket .ensures), start .pre .1 .1 .0, count-small _ _ _ (start .pre .0 .spans .table))
+    let at-bucket = c .before .before .before .before .before in
+    let s = start at-bucket in
+    omega (arith, last-right at-bucket, sort-few at-bucket, s .pre .1 .1 .0, count-small _ _ _ (s .pre .0 .spans .table))
 
 mul-tokens-2 : tie.Need-mul-tokens-2
 mul-tokens-2 c = search needs
@@ -90,25 +113,23 @@ slice-write-tokens c = search needs
 
 cast-heads : tie.Need-cast-heads
 cast-heads c =
-    let start = c .before .before .before .before .before .before .before .before .before .before .before .before .before .before in
-    omega (arith, start .pre .1 .1 .0, count-small _ _ _ (start .pre .0 .spans .table))
+    let s = start (c .before .before .before .before .before) in
+    omega (arith, s .pre .1 .1 .0, count-small _ _ _ (s .pre .0 .spans .table))
 
 add-heads : tie.Need-add-heads
 add-heads c =
-    let start = c .before .before .before .before .before .before .before .before .before .before .before .before .before .before in
-    omega (arith, start .pre .1 .1 .0, count-small _ _ _ (start .pre .0 .spans .table))
+    let s = start (c .before .before .before .before .before) in
+    omega (arith, s .pre .1 .1 .0, count-small _ _ _ (s .pre .0 .spans .table))
 
 mul-heads : tie.Need-mul-heads
 mul-heads c =
-    let start = c .before .before .before .before .before .before .before .before .before .before .before .before .before .before in
-    let es : c .before .before .before .before .before .before .before .before .before .sort-of .result ≡ sortAt (tokenAt (start .args .file .now)) (start .args .n) = sort-is start _ (c .before .before .before .before .before .before .before .before .before .sort-of .ensures) in
-    omega (arith, bucket-small _ _ _ _ _ (start .pre .0) (start .pre .1 .0) (start .pre .1 .1 .0) _ es (c .before .before .before .before .before .before .before .before .if1 .left) _ (c .before .before .before .before .before .before .span .ensures) _ (c .before .before .before .before .before .bucket .ensures), start .pre .1 .0 .size)
+    let at-bucket = c .before .before .before .before .before in
+    omega (arith, bucket-right at-bucket, start at-bucket .pre .1 .0 .size)
 
 slice-write-heads : tie.Need-slice-write-heads
 slice-write-heads c =
-    let start = c .before .before .before .before .before .before .before .before .before .before .before .before .before .before in
-    let es : c .before .before .before .before .before .before .before .before .before .sort-of .result ≡ sortAt (tokenAt (start .args .file .now)) (start .args .n) = sort-is start _ (c .before .before .before .before .before .before .before .before .before .sort-of .ensures) in
-    omega (arith, bucket-small _ _ _ _ _ (start .pre .0) (start .pre .1 .0) (start .pre .1 .1 .0) _ es (c .before .before .before .before .before .before .before .before .if1 .left) _ (c .before .before .before .before .before .before .span .ensures) _ (c .before .before .before .before .before .bucket .ensures), start .pre .1 .0 .size)
+    let at-bucket = c .before .before .before .before .before in
+    omega (arith, bucket-right at-bucket, start at-bucket .pre .1 .0 .size)
 
 same-length-2 : tie.Need-same-length-2
 same-length-2 c = search needs
@@ -118,9 +139,11 @@ same-length-3 c = search needs
 
 returns-3 : tie.Need-returns-3
 returns-3 c =
-    let start = c .before .before .before .before .before .before .before .before .before .before .before .before .before .before in
-    let es : c .before .before .before .before .before .before .before .before .before .sort-of .result ≡ sortAt (tokenAt (start .args .file .now)) (start .args .n) = sort-is start _ (c .before .before .before .before .before .before .before .before .before .sort-of .ensures) in
-    visit-new _ _ _ _ _ (start .pre .0) (start .pre .1 .0) (start .pre .1 .1 .0) _ es (c .before .before .before .before .before .before .before .before .if1 .left) _ (c .before .before .before .before .before .before .span .ensures) _ (c .before .before .before .before .before .bucket .ensures) _ (c .before .before .floor-of .ensures ∙ ap (λ u. floorOf u (c .before .before .before .before .before .before .before .before .before .sort-of .result)) (start .pre .1 .1 .1)) (sym (c .if2 .left) ∙ c .before .follow .ensures)
+    let at-bucket = c .before .before .before .before .before in
+    let s = start at-bucket in
+    let floor = c .before .before .floor-of .ensures ∙ ap (λ u. floorOf u (at-sort at-bucket .sort-of .result)) (s .pre .1 .1 .1) in
+    visit-new _ _ _ _ _ (s .pre .0) (s .pre .1 .0) (s .pre .1 .1 .0) _ (sort-right at-bucket) (at-bucket .before .before .before .if1 .left) _ (at-bucket .before .span .ensures) _ (at-bucket .bucket .ensures) _ floor
+    (sym (c .if2 .left) ∙ c .before .follow .ensures)
 
 pub visit-spec : {M : Type 1} → statement M
 visit-spec =

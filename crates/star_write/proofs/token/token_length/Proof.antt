@@ -32,7 +32,7 @@ add-result-2 c =
       arith,
       short-indent (tokenOf (start .args .kind) (start .args .content .now)),
       short-opening (start .args .kind),
-      short-closing (start .args .kind),
+      short-closing (start .args .kind) (start .args .content .now),
     )
 
 add-result-3 : tie.Need-add-result-3
@@ -42,7 +42,7 @@ add-result-3 c =
       arith,
       short-indent (tokenOf (start .args .kind) (start .args .content .now)),
       short-opening (start .args .kind),
-      short-closing (start .args .kind),
+      short-closing (start .args .kind) (start .args .content .now),
     )
 
 returns : tie.Need-returns
