@@ -3,8 +3,8 @@ use mathlib.Core.Path.{_≡_}
 use Prim.Native.Nat.{_-_}
 use borrow.Author.Needs.{needs}
 use lib.ListN.{length}
-use Rattle.star_cases.proofs.table.copy.Statement.{statement}
-use Rattle.star_cases.proofs.table.copy.Tie as tie
+use Rattle.star_show.proofs.table.copy.Statement.{statement}
+use Rattle.star_show.proofs.table.copy.Tie as tie
 
 abbrev Inv-loop : tie.InvT-loop
 Inv-loop table₀ from words at₀ i₀ table at i = length table ≡ length table₀

@@ -1,5 +1,6 @@
 // The bytes of a line, and its words, parted by blanks.
 use crate::notation;
+use crate::print;
 use crate::table;
 ghost use Prim.Native.Nat.{_≤_};
 ghost use mathlib.Core.Path.{_≡_};
@@ -72,4 +73,21 @@ pub fn number(line: &[u8]) -> u32 {
         at += 1;
     }
     n
+}
+
+// Prints a line, but of a case its file alone.
+pub fn show(line: &[u8]) {
+    if byte(line, 0) == b'c' {
+        print::text(rest(line));
+    } else {
+        print::text(line);
+    }
+}
+
+// The place of the last line that has a file: this one, or the one before.
+pub fn last_of(b: u8, at: usize, last: usize) -> usize {
+    match b {
+        b'c' | b'r' => at,
+        _ => last,
+    }
 }

@@ -11,25 +11,6 @@ pub fn bar() {
     text(b" | ");
 }
 
-// Writes a number.
-fn number(n: u32) {
-    io::print_decimal(STDOUT_FILENO, n as u64);
-}
-
-// Writes two numbers.
-pub fn two(a: u32, b: u32) {
-    number(a);
-    text(b" ");
-    number(b);
-}
-
-// Writes three numbers.
-pub fn three(a: u32, b: u32, c: u32) {
-    two(a, b);
-    text(b" ");
-    number(c);
-}
-
 // What stands before the word at a place of a table whose rows have so many words.
 fn separator(at: usize, width: u32) -> u8 {
     if width == 0 {
@@ -48,7 +29,7 @@ fn cell(at: usize, word: u32, width: u32, counted: bool) {
     if at != 0 {
         text(&[separator(at, width)]);
     }
-    number(word);
+    io::print_decimal(STDOUT_FILENO, word as u64);
 }
 
 // Writes rows of so many words, parted by commas: the first words, as many as `size`, and any other that is not 0.
@@ -58,6 +39,16 @@ pub fn rows(words: &[u32], size: usize, width: u32) {
         cell(at, words[at], width, at < size);
         at += 1;
     }
+}
+
+// Writes two numbers.
+pub fn two(a: u32, b: u32) {
+    rows(&[a, b], 2, 2);
+}
+
+// Writes three numbers.
+pub fn three(a: u32, b: u32, c: u32) {
+    rows(&[a, b, c], 3, 3);
 }
 
 // The letter that stands for a byte after `\`, or 0.
@@ -73,8 +64,13 @@ fn letter(b: u8) -> u8 {
     }
 }
 
-// Writes a byte that a file may have in the notation of the input.
-fn symbol(b: u8) {
+// Writes a byte in the notation of the input, if it is counted or not 0.
+fn symbol(b: u8, counted: bool) {
+    if !counted {
+        if b == 0 {
+            return;
+        }
+    }
     if letter(b) == 0 {
         text(&[b]);
     } else {
@@ -82,20 +78,11 @@ fn symbol(b: u8) {
     }
 }
 
-// Writes a byte in the notation of the input, if it is counted or not 0.
-fn symbol_if(b: u8, counted: bool) {
-    if counted {
-        symbol(b);
-    } else if b != 0 {
-        symbol(b);
-    }
-}
-
 // Writes bytes in the notation of the input: the first, as many as `size`, and any other that is not 0.
 pub fn escaped(bytes: &[u8], size: usize) {
     let mut at = 0;
     while at < bytes.len() {
-        symbol_if(bytes[at], at < size);
+        symbol(bytes[at], at < size);
         at += 1;
     }
 }

@@ -1,8 +1,8 @@
 -- `same_tokens` is safe and ends: each turn goes one token on.
 use Prim.Native.Nat.{_-_}
 use borrow.Author.Needs.{needs}
-use Rattle.star_cases.proofs.plain.same_tokens.Statement.{statement}
-use Rattle.star_cases.proofs.plain.same_tokens.Tie as tie
+use Rattle.star_show.proofs.compare.same_tokens.Statement.{statement}
+use Rattle.star_show.proofs.compare.same_tokens.Tie as tie
 
 abbrev Inv-loop : tie.InvT-loop
 Inv-loop file rows form back n₀ n = Unit {0}

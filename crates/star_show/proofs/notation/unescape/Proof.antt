@@ -3,8 +3,8 @@ use mathlib.Core.Path.{_≡_}
 use Prim.Native.Nat.{_≤_, _-_}
 use borrow.Author.Needs.{needs}
 use lib.ListN.{length}
-use Rattle.star_cases.proofs.notation.unescape.Statement.{statement}
-use Rattle.star_cases.proofs.notation.unescape.Tie as tie
+use Rattle.star_show.proofs.notation.unescape.Statement.{statement}
+use Rattle.star_show.proofs.notation.unescape.Tie as tie
 
 abbrev Inv-loop : tie.InvT-loop
 Inv-loop line file₀ at₀ count₀ file at count = (at ≤ length line) × (length file ≡ length file₀)

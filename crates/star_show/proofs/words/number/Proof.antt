@@ -1,8 +1,8 @@
 -- `number` is safe and ends: each turn goes one byte on.
 use Prim.Native.Nat.{_-_}
 use borrow.Author.Needs.{needs}
-use Rattle.star_cases.proofs.words.number.Statement.{statement}
-use Rattle.star_cases.proofs.words.number.Tie as tie
+use Rattle.star_show.proofs.words.number.Statement.{statement}
+use Rattle.star_show.proofs.words.number.Tie as tie
 
 abbrev Inv-loop : tie.InvT-loop
 Inv-loop line end n₀ at₀ n at = Unit {0}

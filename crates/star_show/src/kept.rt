@@ -1,9 +1,9 @@
-// What reading left in the five tables, kept in one row of words: word t is the count of table t, word 5 + t is how many words of it are lent, and
-// its words stand from word 1,024 t on.
+// What reading left in the five tables, kept in six rows of 1,024 words: in row 1 word t is the count of table t and word 5 + t is how many words of
+// it are lent; its words stand in row t + 1.
 use crate::print;
 use crate::table;
 use crate::table::FILLED;
-use star_find::Counts;
+use crate::words;
 use star_read::Reading;
 ghost use mathlib.Core.Path.{_≡_};
 ghost use lib.ListN.{length};
@@ -15,52 +15,41 @@ pub fn room() -> [u32; 6144]
     [1024; 6144]
 }
 
+// A word of row 1.
+pub fn word(kept: &[u32], i: u32) -> u32 {
+    star_rows::word(kept, 1024, 1, i)
+}
+
+// How many words of a table are lent.
+fn lent_words(kept: &[u32], t: u32) -> usize {
+    word(kept, std::num::wrapping_add_u32(5, t)) as usize
+}
+
 // The words of a table that are lent.
 pub fn lent(kept: &[u32], t: u32) -> &[u32] {
-    table::first(
-        table::behind(kept, t as usize * 1024),
-        table::word(kept, 5 + t as usize),
-    )
+    table::part(kept, t as usize * 1024, lent_words(kept, t))
 }
 
-// The five counts, as lookup takes them.
-pub fn counts(kept: &[u32]) -> Counts {
-    Counts {
-        tokens: table::word(kept, 1),
-        sets: table::word(kept, 2),
-        names: table::word(kept, 3),
-        packets: table::word(kept, 4),
-        values: table::word(kept, 5),
-    }
-}
-
-// Prints the rows of a table, and any word after them that is not 0.
+// Prints the rows of a table of three words a row, and any word after them that is not 0.
 fn print_table(kept: &[u32], t: u32) {
-    let count = table::word(kept, t as usize) as usize;
-    if t == 3 {
-        print::rows(lent(kept, t), count * 4, 4);
-    } else {
-        print::rows(lent(kept, t), count * 3, 3);
-    }
+    print::rows(lent(kept, t), word(kept, t) as usize * 3, 3);
 }
 
-// Prints the tables of an accepted file.
-fn print_tables(kept: &[u32]) {
-    print_table(kept, 1);
-    let mut t = 2;
-    while t <= 5 {
-        print::text(b" ; ");
-        print_table(kept, t);
-        t += 1;
-    }
+// Prints the rows of table 3, and any word after them that is not 0.
+fn print_names(kept: &[u32]) {
+    print::rows(lent(kept, 3), word(kept, 3) as usize * 4, 4);
 }
 
-// Prints any word that a refusal left in the tables.
-fn print_left(kept: &[u32]) {
+// Prints the tables, with these bytes between them.
+fn print_tables(kept: &[u32], between: &[u8]) {
     print_table(kept, 1);
+    print::text(between);
     print_table(kept, 2);
-    print_table(kept, 3);
+    print::text(between);
+    print_names(kept);
+    print::text(between);
     print_table(kept, 4);
+    print::text(between);
     print_table(kept, 5);
 }
 
@@ -69,18 +58,18 @@ pub fn print_answer(answer: Reading, kept: &[u32]) {
     print::two(answer.refusal, answer.place);
     if answer.refusal == 0 {
         print::bar();
-        print::rows(table::first(table::behind(kept, 1), 5), 5, 5);
+        print::rows(table::part(kept, 1, 5), 5, 5);
         print::bar();
-        print_tables(kept);
+        print_tables(kept, b" ; ");
     } else {
-        print::rows(table::first(table::behind(kept, 1), 5), 0, 5);
-        print_left(kept);
+        print::rows(table::part(kept, 1, 5), 0, 5);
+        print_tables(kept, b"");
     }
 }
 
 // The words of a table that are lent, to be written.
 fn lend<'a, 'b>(table: &'a mut [u32], kept: &'b [u32], t: u32) -> &'a mut [u32] {
-    let end = table::least(table::word(kept, 5 + t as usize) as usize, table.len());
+    let end = table::least(lent_words(kept, t), table.len());
     &mut table[0..end]
 }
 
@@ -130,4 +119,18 @@ pub fn read(file: &[u8], kept: &mut [u32]) -> Reading {
     keep_tables(kept, &tokens, &sets, &names, &packets, &values);
     keep_counts(kept, answer);
     answer
+}
+
+// Reads a file and prints what came out.
+pub fn show(file: &[u8], kept: &mut [u32]) {
+    let answer = read(file, kept);
+    print::bar();
+    print_answer(answer, kept);
+}
+
+// Makes a word be another: its row, its place and what it is to be are given.
+pub fn set(given: &[u8], kept: &mut [u32]) {
+    let i = words::rest(given);
+    let at = words::number(given) as usize * 1024 + words::number(i) as usize;
+    table::copy(kept, at, &[words::number(words::rest(i))]);
 }

@@ -2,8 +2,8 @@
 use Prim.Native.Nat.{_-_}
 use borrow.Author.Needs.{needs}
 use lib.ListN.{length}
-use Rattle.star_cases.proofs.print.escaped.Statement.{statement}
-use Rattle.star_cases.proofs.print.escaped.Tie as tie
+use Rattle.star_show.proofs.print.escaped.Statement.{statement}
+use Rattle.star_show.proofs.print.escaped.Tie as tie
 
 abbrev Inv-loop : tie.InvT-loop
 Inv-loop bytes size at₀ at = Unit {0}
@@ -14,11 +14,11 @@ abbrev μ-loop : tie.MeasureT-loop
 loop-holds : tie.Need-loop-holds Inv-loop μ-loop
 loop-holds c = search needs
 
-shared-slice-read-symbol-if : tie.Need-shared-slice-read-symbol-if Inv-loop μ-loop
-shared-slice-read-symbol-if c = search needs
+shared-slice-read-symbol : tie.Need-shared-slice-read-symbol Inv-loop μ-loop
+shared-slice-read-symbol c = search needs
 
-symbol-if-requires : tie.Need-symbol-if-requires Inv-loop μ-loop
-symbol-if-requires c κs = search needs
+symbol-requires : tie.Need-symbol-requires Inv-loop μ-loop
+symbol-requires c κs = search needs
 
 add-at : tie.Need-add-at Inv-loop μ-loop
 add-at c = search needs
@@ -39,8 +39,8 @@ escaped-spec =
     Inv-loop
     μ-loop
     loop-holds
-    shared-slice-read-symbol-if
-    symbol-if-requires
+    shared-slice-read-symbol
+    symbol-requires
     add-at
     loop-less
     loop-again

@@ -2,8 +2,8 @@
 use Prim.Native.Nat.{_-_}
 use borrow.Author.Needs.{needs}
 use lib.ListN.{length}
-use Rattle.star_cases.proofs.print.rows.Statement.{statement}
-use Rattle.star_cases.proofs.print.rows.Tie as tie
+use Rattle.star_show.proofs.print.rows.Statement.{statement}
+use Rattle.star_show.proofs.print.rows.Tie as tie
 
 abbrev Inv-loop : tie.InvT-loop
 Inv-loop words size width at₀ at = Unit {0}
