@@ -1,25 +1,10 @@
 // Calls of the library, over the last file and the tables that are lent.
-use crate::kept;
 use crate::plain;
-use crate::print;
-use crate::table;
-use crate::words;
 use star_find::Counts;
 use star_find::Found;
-
-// Makes a word be another.
-pub fn set(given: &[u8], kept: &mut [u32]) {
-    let i = words::rest(given);
-    let at = words::number(given) as usize * 1024 + words::number(i) as usize;
-    table::put(kept, at, words::number(words::rest(i)));
-}
-
-// Reads a file and prints what came out.
-pub fn read(file: &[u8], kept: &mut [u32]) {
-    let answer = kept::read(file, kept);
-    print::bar();
-    kept::print_answer(answer, kept);
-}
+use star_show::kept;
+use star_show::print;
+use star_show::words;
 
 // Writes the plain form of a file into so many bytes and prints what came out.
 pub fn write(file: &[u8], size: u32) {
@@ -27,6 +12,17 @@ pub fn write(file: &[u8], size: u32) {
     let written = plain::write(file, words::lend(&mut out, size));
     print::bar();
     plain::print_answer(written, words::first(&out, size));
+}
+
+// The five counts, as lookup takes them.
+fn counts(kept: &[u32]) -> Counts {
+    Counts {
+        tokens: kept::word(kept, 1),
+        sets: kept::word(kept, 2),
+        names: kept::word(kept, 3),
+        packets: kept::word(kept, 4),
+        values: kept::word(kept, 5),
+    }
 }
 
 // Prints what a lookup found.
@@ -99,7 +95,7 @@ pub fn look(given: &[u8], file: &[u8], kept: &[u32]) {
     let names = kept::lent(kept, 3);
     let packets = kept::lent(kept, 4);
     let values = kept::lent(kept, 5);
-    let counts = kept::counts(kept);
+    let counts = counts(kept);
     let name = words::rest(given);
     let k = words::rest(name);
     look_for(

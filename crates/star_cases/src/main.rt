@@ -9,30 +9,13 @@
 //     look SET NAME K BYTES   looks for the block, the frame of a set and the name of a set with these bytes, and for the k-th value of a name row
 // Any other line is a remark.
 mod calls;
-mod kept;
-mod notation;
 mod plain;
-mod print;
-mod table;
-mod words;
 
-use table::FILLED;
-
-// Prints the rows of a split.
-fn print_rows(rows: &[u32], count: u32, refusal: u32) {
-    if refusal == 0 {
-        print::bar();
-    }
-    print::rows(rows, count as usize * 3, 3);
-}
-
-// Splits a file and prints refusal, place and count, and the rows where it is accepted.
-fn split(file: &[u8]) {
-    let mut rows = [FILLED; 1024];
-    let answer = star_lex::read_tokens(file, &mut rows);
-    print::three(answer.refusal, answer.place, answer.count);
-    print_rows(&rows, answer.count, answer.refusal);
-}
+use star_show::kept;
+use star_show::notation;
+use star_show::print;
+use star_show::split;
+use star_show::words;
 
 // Writes the plain form of a file whose reading is kept, if it was accepted.
 fn write(file: &[u8], kept: &[u32], refusal: u32) {
@@ -53,7 +36,7 @@ fn read_and_write(file: &[u8]) {
 // Runs a file through the split, reading and writing.
 fn run_file(file: &[u8]) {
     print::bar();
-    split(file);
+    split::run(file);
     print::text(b"\n  read ");
     read_and_write(file);
 }
@@ -75,20 +58,11 @@ fn run_on(line: &[u8], given: &[u8], file: &[u8], kept: &mut [u32]) {
     match words::byte(line, 0) {
         b'c' => run_file(file),
         b'1' => run_long(words::number(line)),
-        b'r' => calls::read(file, kept),
+        b'r' => kept::show(file, kept),
         b'w' => calls::write(file, words::number(given)),
-        b's' => calls::set(given, kept),
+        b's' => kept::set(given, kept),
         b'l' => calls::look(given, file, kept),
         _ => {}
-    }
-}
-
-// Prints a line, but of a case its file alone.
-fn show(line: &[u8]) {
-    if words::byte(line, 0) == b'c' {
-        print::text(words::rest(line));
-    } else {
-        print::text(line);
     }
 }
 
@@ -96,17 +70,9 @@ fn show(line: &[u8]) {
 fn run_line(line: &[u8], last: &[u8], kept: &mut [u32]) {
     let mut file = words::room();
     let size = notation::unescape(words::rest(last), &mut file);
-    show(line);
+    words::show(line);
     run_on(line, words::rest(line), words::first(&file, size), kept);
     print::text(b"\n");
-}
-
-// The place of the last line that has a file: this one, or the one before.
-fn last_of(b: u8, at: usize, last: usize) -> usize {
-    match b {
-        b'c' | b'r' => at,
-        _ => last,
-    }
 }
 
 // Runs each line.
@@ -114,7 +80,7 @@ fn run_lines(lines: &[u8], kept: &mut [u32]) {
     let mut at = 0;
     let mut last = 0;
     while at < lines.len() {
-        last = last_of(lines[at], at, last);
+        last = words::last_of(lines[at], at, last);
         run_line(words::line(lines, at), words::line(lines, last), kept);
         at = bytes::scan::find(lines, at, lines.len(), b'\n') + 1;
     }

@@ -1,0 +1,136 @@
+// What reading left in the five tables, kept in six rows of 1,024 words: in row 1 word t is the count of table t and word 5 + t is how many words of
+// it are lent; its words stand in row t + 1.
+use crate::print;
+use crate::table;
+use crate::table::FILLED;
+use crate::words;
+use star_read::Reading;
+ghost use mathlib.Core.Path.{_≡_};
+ghost use lib.ListN.{length};
+
+// Room for what reading leaves, with 1,024 words lent of each table.
+pub fn room() -> [u32; 6144]
+    ensures { λ r. ⌜ 6144 ≡ length r ⌝ }
+{
+    [1024; 6144]
+}
+
+// A word of row 1.
+pub fn word(kept: &[u32], i: u32) -> u32 {
+    star_rows::word(kept, 1024, 1, i)
+}
+
+// How many words of a table are lent.
+fn lent_words(kept: &[u32], t: u32) -> usize {
+    word(kept, std::num::wrapping_add_u32(5, t)) as usize
+}
+
+// The words of a table that are lent.
+pub fn lent(kept: &[u32], t: u32) -> &[u32] {
+    table::part(kept, t as usize * 1024, lent_words(kept, t))
+}
+
+// Prints the rows of a table of three words a row, and any word after them that is not 0.
+fn print_table(kept: &[u32], t: u32) {
+    print::rows(lent(kept, t), word(kept, t) as usize * 3, 3);
+}
+
+// Prints the rows of table 3, and any word after them that is not 0.
+fn print_names(kept: &[u32]) {
+    print::rows(lent(kept, 3), word(kept, 3) as usize * 4, 4);
+}
+
+// Prints the tables, with these bytes between them.
+fn print_tables(kept: &[u32], between: &[u8]) {
+    print_table(kept, 1);
+    print::text(between);
+    print_table(kept, 2);
+    print::text(between);
+    print_names(kept);
+    print::text(between);
+    print_table(kept, 4);
+    print::text(between);
+    print_table(kept, 5);
+}
+
+// Prints refusal and place, and of an accepted file the counts and the rows of the five tables; of a refused one any count or word that is not 0.
+pub fn print_answer(answer: Reading, kept: &[u32]) {
+    print::two(answer.refusal, answer.place);
+    if answer.refusal == 0 {
+        print::bar();
+        print::rows(table::part(kept, 1, 5), 5, 5);
+        print::bar();
+        print_tables(kept, b" ; ");
+    } else {
+        print::rows(table::part(kept, 1, 5), 0, 5);
+        print_tables(kept, b"");
+    }
+}
+
+// The words of a table that are lent, to be written.
+fn lend<'a, 'b>(table: &'a mut [u32], kept: &'b [u32], t: u32) -> &'a mut [u32] {
+    let end = table::least(lent_words(kept, t), table.len());
+    &mut table[0..end]
+}
+
+// Keeps the five counts.
+fn keep_counts(kept: &mut [u32], answer: Reading) {
+    let counts = [
+        answer.tokens,
+        answer.sets,
+        answer.names,
+        answer.packets,
+        answer.values,
+    ];
+    table::copy(kept, 1, &counts);
+}
+
+// Keeps the words of five tables.
+fn keep_tables(
+    kept: &mut [u32],
+    tokens: &[u32],
+    sets: &[u32],
+    names: &[u32],
+    packets: &[u32],
+    values: &[u32],
+) {
+    table::copy(kept, 1024, tokens);
+    table::copy(kept, 2048, sets);
+    table::copy(kept, 3072, names);
+    table::copy(kept, 4096, packets);
+    table::copy(kept, 5120, values);
+}
+
+// Reads a file into tables of as many words as are lent, none of them 0 before, and keeps what is left.
+pub fn read(file: &[u8], kept: &mut [u32]) -> Reading {
+    let mut tokens = [FILLED; 1024];
+    let mut sets = [FILLED; 1024];
+    let mut names = [FILLED; 1024];
+    let mut packets = [FILLED; 1024];
+    let mut values = [FILLED; 1024];
+    let answer = star_read::read(
+        file,
+        lend(&mut tokens, kept, 1),
+        lend(&mut sets, kept, 2),
+        lend(&mut names, kept, 3),
+        lend(&mut packets, kept, 4),
+        lend(&mut values, kept, 5),
+    );
+    keep_tables(kept, &tokens, &sets, &names, &packets, &values);
+    keep_counts(kept, answer);
+    answer
+}
+
+// Reads a file and prints what came out.
+pub fn show(file: &[u8], kept: &mut [u32]) {
+    let answer = read(file, kept);
+    print::bar();
+    print_answer(answer, kept);
+}
+
+// Makes a word be another: its row, its place and what it is to be are given.
+pub fn set(given: &[u8], kept: &mut [u32]) {
+    let i = words::rest(given);
+    let at = words::number(given) as usize * 1024 + words::number(i) as usize;
+    table::copy(kept, at, &[words::number(words::rest(i))]);
+}
