@@ -3,10 +3,9 @@ use star_find::Counts;
 use star_find::Found;
 use star_find::Span;
 use star_find::Value;
-use star_read::Reading;
+use star_read::Answer;
 use star_write::Written;
 ghost use mathlib.Core.Path.{_≡_};
-ghost use lib.ListN.{length};
 ghost use Rattle.star_read.specs.Answer.{tables, Reads};
 ghost use Rattle.star_find.specs.Find.{lent, findBlock, findFrame, findName, valueAt, valueSpan};
 ghost use Rattle.star_write.specs.Answer.{Writes};
@@ -20,7 +19,7 @@ pub extern "C" fn star_read(
     names: &mut [u32],
     packets: &mut [u32],
     values: &mut [u32],
-) -> Reading
+) -> Answer
     ensures { λ r. ⌜ Reads (now (file .entry))
         (tables (now (tokens .entry)) (now (sets .entry)) (now (names .entry)) (now (packets .entry)) (now (values .entry)))
         (tables (now (tokens .exit)) (now (sets .exit)) (now (names .exit)) (now (packets .exit)) (now (values .exit))) r ⌝ }

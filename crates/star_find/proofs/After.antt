@@ -31,7 +31,7 @@ use Rattle.star_read.proofs.Demand3.{rows-of-reading, one-reading}
 use Rattle.star_read.proofs.Accepted.{accepted-holds}
 use Rattle.star_read.specs.Answer.{readAnswer, tablesOf}
 use Rattle.star_find.specs.Find.{Lent, fits, isRow, contentAt, countsFit, spanAt}
-use Rattle.star_find.specs.Demands.{lentAfter, countsAfter, contentOf, kindOf, spanOf}
+use Rattle.star_find.specs.Demands.{lentAfter, countsAfter, contentOf, tokenKind, spanOf}
 use Rattle.star_find.specs.declared.Counts.{Counts}
 
 -- the file and the five tables that hold these rows, and their counts
@@ -88,8 +88,8 @@ content-at ps row =
     sym (List·getD-map (λ t. t .content) (tokensOnly ps) (row - 1) (record { kind = 0; content = [] }))
     ∙ ap (λ cs. getD cs (row - 1) []) (map-map (λ t. t .content) (λ p. p .token) ps)
 
-kind-at : (ps : List Placed) (row : ℕ) → getD (tokensOnly ps) (row - 1) (record { kind = 0; content = [] }) .kind ≡ kindOf ps row
-unfolding kindOf
+kind-at : (ps : List Placed) (row : ℕ) → getD (tokensOnly ps) (row - 1) (record { kind = 0; content = [] }) .kind ≡ tokenKind ps row
+unfolding tokenKind
 kind-at ps row =
     sym (List·getD-map (λ t. t .kind) (tokensOnly ps) (row - 1) (record { kind = 0; content = [] }))
     ∙ ap (λ ks. getD ks (row - 1) 0) (map-map (λ t. t .kind) (λ p. p .token) ps)
@@ -124,12 +124,12 @@ module _ (file : List ℕ) (words : Sizes) (ps : List Placed) (rows : Rows) (e :
           content-at,
         )
 
-    pub token-kind : wordOf (holding tokenRow ps (words .tokens)) 3 row 0 ≡ kindOf ps row
+    pub token-kind : wordOf (holding tokenRow ps (words .tokens)) 3 row 0 ≡ tokenKind ps row
     token-kind = rw (word-row (holding tokenRow ps (words .tokens)) 3 row 0 (is .0), add-zero, token-row .kind, token-at, kind-at)
 
     -- and its span
     pub token-span : spanAt (holding tokenRow ps (words .tokens)) row ≡ spanOf ps row
-    unfolding spanAt spanOf tokenRow kindOf contentOf
+    unfolding spanAt spanOf tokenRow tokenKind contentOf
     token-span =
         rw (
           word-row (holding tokenRow ps (words .tokens)) 3 row 1 (is .0),

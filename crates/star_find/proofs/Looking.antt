@@ -11,7 +11,7 @@ use lib.Dec.{eqb, leb}
 use lib.ListN.{length, getD, take, drop}
 use Rattle.star_rows.specs.Rows.{wordOf}
 use Rattle.star_rows.proofs.Words.{word-row}
-use Rattle.star_lex.specs.Found.{isSome}
+use Rattle.star_lex.specs.Answer.{isSome}
 use Rattle.star_lex.specs.Table.{contentIn}
 use Rattle.star_lex.proofs.Cases.{impossible}
 use Rattle.star_lex.proofs.Table.{Spans, content-inside, content-whole}

@@ -14,7 +14,7 @@ use Rattle.star_text.specs.Outcome.{accepted}
 use Rattle.star_rows.specs.Rows.{wordOf, holding}
 use Rattle.star_rows.proofs.Words.{word-held}
 use Rattle.star_lex.specs.Tokens.{Placed, tokenRow}
-use Rattle.star_lex.specs.Found.{isSome}
+use Rattle.star_lex.specs.Answer.{isSome}
 use Rattle.star_lex.specs.Table.{orEmpty}
 use Rattle.star_grammar.specs.Tables.{ValueRow, Rows, valueWords}
 use Rattle.star_grammar.proofs.Widths.{value-wide}
@@ -22,7 +22,7 @@ use Rattle.star_grammar.proofs.RowsOf.{IsToken, Inside}
 use Rattle.star_lex.proofs.Each.{each-at}
 use Rattle.star_read.specs.Read.{Sizes, readOf}
 use Rattle.star_find.specs.Find.{isRow, contentAt, rowThere, kth, missing, located, locate, valueOf, valueAt, valuePart, spanAt, valueSpan}
-use Rattle.star_find.specs.Demands.{contentOf, kindOf, spanOf, ofName}
+use Rattle.star_find.specs.Demands.{contentOf, tokenKind, spanOf, ofName}
 use Rattle.star_find.specs.declared.Located.{Located}
 use Rattle.star_find.proofs.After.{left, counted, counts-fit, row-inside, token-content, token-kind, token-span}
 
@@ -125,7 +125,7 @@ module _ (file : List ℕ) (words : Sizes) (ps : List Placed) (rows : Rows) (e :
     value-located =
         rw (ne-eqb (suc i) 0 (λ z. omega arith), value-word 2 (omega arith), token-content file words ps rows e (v .value) value-token, value-word 1 (omega arith))
 
-    value-is : valueOf (left file words ps rows) (placed v) ≡ record { refusal = 0; kind = kindOf ps (v .value); packet = v .packet }
+    value-is : valueOf (left file words ps rows) (placed v) ≡ record { refusal = 0; kind = tokenKind ps (v .value); packet = v .packet }
     unfolding valueOf left
     value-is = rw (token-kind file words ps rows e (v .value) value-token)
 
@@ -134,7 +134,7 @@ module _ (file : List ℕ) (words : Sizes) (ps : List Placed) (rows : Rows) (e :
     part-is = rw (token-content file words ps rows e (v .value) value-token)
 
   pub value-found : (before : List ValueRow) (v : ValueRow) (behind : List ValueRow) → ofName name (rows .values) ≡ before ++ (v ∷ behind)
-      → (valueAt (left file words ps rows) (counted ps rows) name (suc (length before)) ≡ record { refusal = 0; kind = kindOf ps (v .value); packet = v .packet })
+      → (valueAt (left file words ps rows) (counted ps rows) name (suc (length before)) ≡ record { refusal = 0; kind = tokenKind ps (v .value); packet = v .packet })
       × (valuePart (left file words ps rows) (counted ps rows) name (suc (length before)) ≡ contentOf ps (v .value))
       × (valueSpan (left file words ps rows) (counted ps rows) name (suc (length before)) ≡ spanOf ps (v .value))
   unfolding valueAt valuePart valueSpan left counted

@@ -14,7 +14,7 @@ use Rattle.star_grammar.specs.Tables.{Rows, ValueRow}
 use Rattle.star_grammar.specs.Reading.{Reading, entryNames, ownNames, frameCodes}
 use Rattle.star_read.specs.Read.{Sizes, tokensOnly, readOf}
 use Rattle.star_read.specs.Answer.{readAnswer, Tables, tablesOf}
-use Rattle.star_read.specs.declared.Reading as Answer
+use Rattle.star_read.specs.declared.Answer.{Answer}
 use Rattle.star_find.specs.Find.{Lent, lent, findName, findBlock, findFrame, valueAt, valuePart, valueSpan}
 use Rattle.star_find.specs.declared.Counts.{Counts}
 use Rattle.star_find.specs.declared.Found.{Found}
@@ -29,7 +29,7 @@ lentAfter file words =
 
 abbrev pub countsAfter : List ℕ → Sizes → Counts
 countsAfter file words =
-    let r : Answer.Reading = readAnswer (readOf file words) in
+    let r : Answer = readAnswer (readOf file words) in
     record { tokens = r .tokens; sets = r .sets; names = r .names; packets = r .packets; values = r .values }
 
 -- the own names of each set of a tree, sets in the order of their first tokens: a block, then its frames
@@ -110,13 +110,13 @@ unfoldable pub ofName : ℕ → List ValueRow → List ValueRow
 ofName name [] = []
 ofName name (v ∷ vs) = cond (eqb (v .name) name) (v ∷ ofName name vs) (ofName name vs)
 
-unfoldable pub kindOf : List Placed → (row : ℕ) → ℕ
-kindOf ps row = getD (map (λ p. p .token .kind) ps) (row - 1) 0
+unfoldable pub tokenKind : List Placed → (row : ℕ) → ℕ
+tokenKind ps row = getD (map (λ p. p .token .kind) ps) (row - 1) 0
 
 -- where the content of the token of that row lies in the file
 unfoldable pub spanOf : List Placed → (row : ℕ) → Span
 spanOf ps row =
-    let start : ℕ = getD (map (λ p. p .at) ps) (row - 1) 0 + length (opening (kindOf ps row)) in
+    let start : ℕ = getD (map (λ p. p .at) ps) (row - 1) 0 + length (opening (tokenKind ps row)) in
     record { start = start; end = start + length (contentOf ps row) }
 
 -- the values of a name row, k = 1, 2, .., are those of the reading in file order, each with its packet and the content of its token, where that
@@ -125,7 +125,7 @@ abbrev pub ValuesInOrder : Type 0
 ValuesInOrder = (file : List ℕ) (words : Sizes) (ps : List Placed) (rows : Rows) → readOf file words ≡ accepted (ps, rows)
     → (name : ℕ) → 1 ≤ name → name ≤ length (rows .names)
     → ((before : List ValueRow) (v : ValueRow) (behind : List ValueRow) → ofName name (rows .values) ≡ before ++ (v ∷ behind)
-    → (valueAt (lentAfter file words) (countsAfter file words) name (suc (length before)) ≡ record { refusal = 0; kind = kindOf ps (v .value); packet = v .packet })
+    → (valueAt (lentAfter file words) (countsAfter file words) name (suc (length before)) ≡ record { refusal = 0; kind = tokenKind ps (v .value); packet = v .packet })
     × (valuePart (lentAfter file words) (countsAfter file words) name (suc (length before)) ≡ contentOf ps (v .value))
     × (valueSpan (lentAfter file words) (countsAfter file words) name (suc (length before)) ≡ spanOf ps (v .value)))
     × ((k : ℕ) → (k ≡ 0) ⊎ (length (ofName name (rows .values)) < k)

@@ -6,7 +6,7 @@ use Prim.Native.Nat.{ℕ, zero, suc, _-_}
 use lib.Dec.{eqb, leb}
 use lib.ListN.{length}
 use Rattle.star_rows.specs.Rows.{wordOf, hasRoom}
-use Rattle.star_lex.specs.Found.{isSome}
+use Rattle.star_lex.specs.Answer.{isSome}
 use Rattle.star_lex.specs.Table.{contentIn, orEmpty}
 use Rattle.star_text.specs.Names.{same}
 use Rattle.star_find.specs.declared.Counts.{Counts}

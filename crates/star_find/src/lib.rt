@@ -5,7 +5,7 @@ ghost use Prim.Native.Nat.{_-_};
 ghost use lib.Dec.{eqb};
 ghost use denote.Ref.{ptr};
 ghost use Rattle.star_rows.specs.Rows.{wordOf};
-ghost use Rattle.star_lex.specs.Found.{isSome};
+ghost use Rattle.star_lex.specs.Answer.{isSome};
 ghost use Rattle.star_lex.specs.Table.{orEmpty, further};
 ghost use Rattle.star_find.specs.Find.{lent, fits, isRow, contentAt, rowThere, findBlock, findFrame, findName, isWanted, matchOf, seek as Find·seek, kth, locate as Find·locate, valueAt, valuePart, valueSpan};
 ghost use Rattle.star_find.specs.declared.Match.the-variants.{Other};

@@ -12,7 +12,7 @@ use Rattle.star_lex.specs.Tokens.{Token, Each}
 use Rattle.star_grammar.specs.Tree.{IsValue, innerYield, fileYield, frameEnd, loopStart, stop}
 use Rattle.star_grammar.specs.Tables.{Rows, fold, putEntry, putMember, putBlock, putNames, putStops, putValues}
 use Rattle.star_grammar.specs.Machine.{Sort, Where, inBlock, inFrame, setOf, Level, State, start, within, named, header, body, between, filled, noValue, noValueAt, bodyStep, namedStep, step, Run, good, run}
-use Rattle.star_grammar.specs.Rest.{Members, InSet, Valued, Filling, Levels, Heading, InBody, Blocks, Rest, SaneHeader, SaneBody, Sane}
+use Rattle.star_grammar.proofs.Rest.{Members, InSet, Valued, Filling, Levels, Heading, InBody, Blocks, Rest, SaneHeader, SaneBody, Sane}
 use Rattle.star_grammar.proofs.Counts.{Counts, map-counts}
 use Rattle.star_grammar.proofs.Sorts.{sort-value, sort-frame-end, sort-stop, run-sort}
 use Rattle.star_grammar.proofs.Sane.{reverse-counts}

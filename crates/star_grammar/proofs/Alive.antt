@@ -9,7 +9,7 @@ use Rattle.star_lex.specs.Tokens.{Token, Each}
 use Rattle.star_grammar.specs.Tree.{IsValue, IsName, innerYield, InnerWhole, File, fileYield, FileBy, frameEnd, stop}
 use Rattle.star_grammar.specs.Tables.{Rows, noRows, rowsOf}
 use Rattle.star_grammar.specs.Machine.{Where, inBlock, inFrame, Level, State, start, within, named, header, body, Step, go, refuse, stepAt, run, walk}
-use Rattle.star_grammar.specs.Rest.{Fixed, InSet, Stopped, Filling, Levels, Heading, Blocks, Rest, SaneHeader, Sane, zeroWord, setEnding, packetEnding, onePacket, countsOf, ending, completion}
+use Rattle.star_grammar.proofs.Rest.{Fixed, InSet, Stopped, Filling, Levels, Heading, Blocks, Rest, SaneHeader, Sane, zeroWord, setEnding, packetEnding, onePacket, countsOf, ending, completion}
 use Rattle.star_grammar.proofs.Sorts.{onward, run-onward}
 use Rattle.star_grammar.proofs.Sane.{sane-kept}
 use Rattle.star_grammar.proofs.Complete.{complete}

@@ -7,12 +7,12 @@ use Rattle.star_text.specs.Bytes.{isPrintable, all}
 use Rattle.star_lex.specs.Rules.{Rules}
 use Rattle.star_lex.specs.Tokens.{Token, Each, dataWord, saveWord, loopWord, stopWord, globalWord}
 use Rattle.star_lex.specs.Split.{after}
-use Rattle.star_lex.specs.WellFormed.{FormedBy}
-use Rattle.star_lex.specs.WellFormed as WellFormed
+use Rattle.star_lex.proofs.Formed.{FormedBy}
+use Rattle.star_lex.proofs.Formed as WellFormed
 use Rattle.star_lex.proofs.Each.{each-append, each-implies}
 use Rattle.star_grammar.specs.Tree.{frameEnd, stop}
 use Rattle.star_grammar.specs.Machine.{State, start, within, named, header, body}
-use Rattle.star_grammar.specs.Rest.{Fixed, zeroWord, naming, ending, completion}
+use Rattle.star_grammar.proofs.Rest.{Fixed, zeroWord, naming, ending, completion}
 use Rattle.star_grammar.proofs.Alive.{each-ending}
 
 -- a kind that fixes no content

@@ -1,3 +1,4 @@
+pub mod Rest
 pub mod Counts
 pub mod Sorts
 pub mod Sane

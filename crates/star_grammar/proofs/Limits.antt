@@ -7,11 +7,9 @@ use native.Mathlib.Omega.{arith}
 use lib.Dec.{eqb, ltb}
 use lib.ListN.{length}
 use borrow.Author.Tests.{ltb-true, lt-ltb}
-use Rattle.star_lex.specs.Rules.{Rules, today, atLevels}
+use Rattle.star_lex.specs.Rules.{Rules, atLevels}
 use Rattle.star_lex.specs.Tokens.{Token}
 use Rattle.star_lex.proofs.Cases.{cond-cases}
-use Rattle.star_lex.proofs.Each.{each-implies}
-use Rattle.star_grammar.specs.Tree.{Loop, LoopBy, Entry, item, looped, EntryBy, EntryWhole, Member, own, framed, MemberBy, MemberWhole, Block, BlockBy, BlockWhole, File, FileBy, FileWhole}
 use Rattle.star_grammar.specs.Tables.{Rows, pass}
 use Rattle.star_grammar.specs.Machine.{Sort, sortOf, Where, State, start, within, named, header, body, go, refuse, headerStep, step, stepAt, walk}
 use Rattle.star_grammar.proofs.Sorts.{step-no-global, goes-no-global, goes-step}
@@ -57,34 +55,3 @@ module _ (rules : Rules) (more : ℕ) (least : rules .levels ≤ more) where
 
   pub walks-limit : (st : State) (p : List Token) (r : Rows) → Walks rules st p r → Walks (atLevels rules more) st p r
   walks-limit st p r k = (k .0, k .1, walk-limit st (k .0) p r (k .1) (k .2))
-
--- what is whole by some rules is so by today's with that number of levels, which allow header stops
-module _ (rules : Rules) where
-  loop-today : (l : Loop) → LoopBy rules l → LoopBy (atLevels today (rules .levels)) l
-  loop-today l h = record {
-    some-name = h .some-name;
-    some-names = h .some-names;
-    are-names = h .are-names;
-    are-deeper = h .are-deeper;
-    levels = h .levels;
-    stops-fit = h .stops-fit;
-    stops-allowed = λ x. refl;
-    some-packet = h .some-packet;
-    whole = h .whole;
-  }
-
-  entry-today : (e : Entry) → EntryBy rules e → EntryWhole (rules .levels) e
-  entry-today (item n v) h = h
-  entry-today (looped l) h = loop-today l h
-
-  member-today : (m : Member) → MemberBy rules m → MemberWhole (rules .levels) m
-  member-today (own e) h = entry-today e h
-  member-today (framed f) h =
-      record { heading = h .heading; entries = each-implies (EntryBy rules) (EntryWhole (rules .levels)) entry-today (f .entries) (h .entries) }
-
-  block-today : (b : Block) → BlockBy rules b → BlockWhole (rules .levels) b
-  block-today b h =
-      record { heading = h .heading; members = each-implies (MemberBy rules) (MemberWhole (rules .levels)) member-today (b .members) (h .members) }
-
-  pub file-today : (f : File) → FileBy rules f → FileWhole (rules .levels) f
-  file-today = each-implies (BlockBy rules) (BlockWhole (rules .levels)) block-today

@@ -10,7 +10,7 @@ use borrow.Author.Tests.{ltb-true}
 use Rattle.star_lex.specs.Rules.{Rules}
 use Rattle.star_grammar.specs.Tables.{Rows, pass}
 use Rattle.star_grammar.specs.Machine.{Sort, sortOf, Where, inBlock, inFrame, Level, State, start, within, named, header, body, Step, go, refuse, between, filled, fill, valueAt, begin, headerStep, noValue, noValueAt, bodyStep, startStep, namedStep, step, stepAt}
-use Rattle.star_grammar.specs.Rest.{SaneHeader, SaneBody, Sane}
+use Rattle.star_grammar.proofs.Rest.{SaneHeader, SaneBody, Sane}
 use Rattle.star_grammar.proofs.Counts.{Counts}
 use Rattle.star_grammar.proofs.Sorts.{goes-step}
 

@@ -13,7 +13,7 @@ use Rattle.star_lex.specs.Tokens.{Token, Each}
 use Rattle.star_grammar.specs.Tree.{IsValue, IsName, innerYield, packetYield, InnerWhole, Loop, loopYield, LoopBy, Entry, item, looped, entryYield, EntryBy, frameYield, own, framed, memberYield, blockYield, File, fileYield, FileBy, frameEnd, loopStart, stop}
 use Rattle.star_grammar.specs.Tables.{Rows, noRows, rowsOf}
 use Rattle.star_grammar.specs.Machine.{Sort, sortOf, Where, inBlock, inFrame, Level, State, start, within, named, header, body, Step, go, refuse, between, filled, fill, valueAt, begin, headerStep, noValue, noValueAt, bodyStep, startStep, namedStep, step, stepAt, bad, good, endBetween, endBody, endRun, run}
-use Rattle.star_grammar.specs.Rest.{Fixed, Members, Entries, InSet, Valued, Stopped, Packets, Filling, Levels, Heading, InBody, Blocks, Rest, SaneHeader, SaneBody, Sane}
+use Rattle.star_grammar.proofs.Rest.{Fixed, Members, Entries, InSet, Valued, Stopped, Packets, Filling, Levels, Heading, InBody, Blocks, Rest, SaneHeader, SaneBody, Sane}
 use Rattle.star_grammar.proofs.Counts.{Counts}
 use Rattle.star_grammar.proofs.Sorts.{KindOf, sort-kind, goes-no-global, goes-step, onward, run-onward}
 use Rattle.star_grammar.proofs.Complete.{complete}

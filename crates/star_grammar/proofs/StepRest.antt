@@ -8,7 +8,7 @@ use Rattle.star_lex.specs.Rules.{Rules}
 use Rattle.star_lex.specs.Tokens.{Token, Each}
 use Rattle.star_grammar.specs.Tables.{Rows}
 use Rattle.star_grammar.specs.Machine.{State, Step, go, refuse, stepAt, run}
-use Rattle.star_grammar.specs.Rest.{Fixed, Rest, Sane}
+use Rattle.star_grammar.proofs.Rest.{Fixed, Rest, Sane}
 use Rattle.star_grammar.proofs.Sorts.{onward, run-onward}
 use Rattle.star_grammar.proofs.Sane.{sane-kept}
 use Rattle.star_grammar.proofs.Sound.{step-back, run-back, bad-good}

@@ -1,5 +1,4 @@
 pub mod Tree
 pub mod Tables
 pub mod Machine
-pub mod Rest
 pub mod Reading

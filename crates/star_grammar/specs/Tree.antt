@@ -11,7 +11,7 @@ use mathlib.Core.Bool.{true}
 use mathlib.Core.List.{List, [], _∷_, _++_, map, flatMap}
 use Prim.Native.Nat.{ℕ, _≤_, _<_}
 use lib.ListN.{length, replicate}
-use Rattle.star_lex.specs.Rules.{Rules, today, atLevels}
+use Rattle.star_lex.specs.Rules.{Rules}
 use Rattle.star_lex.specs.Tokens.{Token, Each, saveWord, loopWord, stopWord}
 
 -- the tokens `save_`, `loop_` and `stop_`
@@ -141,18 +141,3 @@ fileYield f = flatMap blockYield f
 
 abbrev pub FileBy : (rules : Rules) → File → Type 0
 FileBy rules f = Each (BlockBy rules) f
-
--- by today's rules but for the number of levels: for star_unique, whose laws have that number as a parameter
-unfoldable abbrev pub EntryWhole : (limit : ℕ) → Entry → Type 0
-unfolding EntryBy
-EntryWhole limit e = EntryBy (atLevels today limit) e
-
-unfoldable abbrev pub MemberWhole : (limit : ℕ) → Member → Type 0
-unfolding MemberBy
-MemberWhole limit m = MemberBy (atLevels today limit) m
-
-abbrev pub BlockWhole : (limit : ℕ) → Block → Type 0
-BlockWhole limit b = BlockBy (atLevels today limit) b
-
-abbrev pub FileWhole : (limit : ℕ) → File → Type 0
-FileWhole limit f = FileBy (atLevels today limit) f

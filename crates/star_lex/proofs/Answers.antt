@@ -15,7 +15,7 @@ use Rattle.star_lex.specs.Rules.{Rules, today}
 use Rattle.star_lex.specs.Tokens.{Placed}
 use Rattle.star_text.specs.Outcome.{refused, accepted, then, need}
 use Rattle.star_lex.specs.Split.{Split, split, tokensBy, tokensOf, placed}
-use Rattle.star_lex.specs.Found.{tokensFit, tokensInBy, tokensIn, splitAnswer}
+use Rattle.star_lex.specs.Answer.{tokensFit, tokensInBy, tokensIn, splitAnswer}
 use Rattle.star_lex.specs.declared.Tokens.{Tokens}
 use Rattle.star_lex.proofs.Cases.{impossible}
 use Rattle.star_lex.proofs.Splitting.{Faulty, split-refused}

@@ -7,7 +7,7 @@ use Prim.Native.Nat.{ℕ, suc, _+_, _-_, _*_, _≤_}
 use native.Mathlib.Omega.{arith}
 use lib.Dec.{eqb, leb}
 use lib.ListN.{length, drop}
-use Rattle.star_text.specs.Bytes.{isTerminate, isWhite, run}
+use Rattle.star_text.specs.Bytes.{isTerminate, isWhite, leading}
 use Rattle.star_lex.specs.Rules.{Rules, today}
 use Rattle.star_lex.specs.Tokens.{Token, Placed, dataWord, saveWord, loopWord, stopWord, globalWord}
 use Rattle.star_text.specs.Outcome.{accepted}
@@ -75,12 +75,12 @@ more-token : {m n : ℕ} {t : Token} {l : Lexeme} → More m l → l ≡ token n
 more-token {m} {n} {t} {l} p e = rw e at p
 
 -- white space or the end follows what a lexeme takes
-word-white : (bs : List ℕ) → whiteNext (drop (length (run (λ c. not (isWhite c)) bs)) bs) ≡ true
-unfolding run whiteNext
+word-white : (bs : List ℕ) → whiteNext (drop (length (leading (λ c. not (isWhite c)) bs)) bs) ≡ true
+unfolding leading whiteNext
 word-white [] = refl
 word-white (b ∷ bs) = by (word-white bs) (isWhite b) refl
   where
-    by : whiteNext (drop (length (run (λ c. not (isWhite c)) bs)) bs) ≡ true → (t : Bool) → isWhite b ≡ t → whiteNext (drop (length (cond (not (isWhite b)) (b ∷ run (λ c. not (isWhite c)) bs) [])) (b ∷ bs)) ≡ true
+    by : whiteNext (drop (length (leading (λ c. not (isWhite c)) bs)) bs) ≡ true → (t : Bool) → isWhite b ≡ t → whiteNext (drop (length (cond (not (isWhite b)) (b ∷ leading (λ c. not (isWhite c)) bs) [])) (b ∷ bs)) ≡ true
     by h true e = rw e e
     by h false e = rw e h
 
@@ -114,7 +114,7 @@ string-white kind q bs more t e = by (quoted q bs) refl e
 from-white : (rules : Rules) (b : ℕ) (bs : List ℕ) (more : ℕ) (t : Token) → wordFrom rules b bs ≡ token more t → whiteNext (drop more bs) ≡ true
 unfolding wordFrom
 from-white rules b bs more t e =
-    let z : more ≡ length (run (λ c. not (isWhite c)) bs) = more-token (word-more rules (length (run (λ c. not (isWhite c)) bs)) (b ∷ run (λ c. not (isWhite c)) bs)) e in
+    let z : more ≡ length (leading (λ c. not (isWhite c)) bs) = more-token (word-more rules (length (leading (λ c. not (isWhite c)) bs)) (b ∷ leading (λ c. not (isWhite c)) bs)) e in
     rw z (word-white bs)
 
 -- a token's first byte is no white space

@@ -11,11 +11,11 @@ use borrow.Author.Tests.{not-true, not-false}
 use lib.Dec.{eqb}
 use lib.ListN.{length, getD, drop, drop-of-length-le}
 use lib.Seq.{drop-cons}
-use Rattle.star_text.specs.Bytes.{isTerminate, isWhite, Classes, belowIn, run}
+use Rattle.star_text.specs.Bytes.{isTerminate, isWhite, Classes, belowIn, leading}
 use Rattle.star_text.proofs.Classes.{below-terminate}
 use Rattle.star_text.proofs.Run.{run-keeps, run-fails}
 use Rattle.star_lex.specs.Split.{quoted, field, starts, whiteNext}
-use Rattle.star_lex.specs.Found.{endOf}
+use Rattle.star_lex.specs.Answer.{endOf}
 use Rattle.star_lex.specs.LineEnd.{LineEnd}
 use Rattle.star_lex.proofs.Delimited.{closes-cons}
 
@@ -78,7 +78,7 @@ module _ (size : ℕ) (file : List ℕ) (at : ℕ) where
 
 -- the next line end from a place on, by the run of bytes that end no line
 pub line-end : {table : List ℕ} → Classes table → (file : List ℕ) (from : ℕ) → ((i : ℕ) → getD file i 0 < 256)
-    → LineEnd file from (from + length (run (belowIn table 3) (drop from file)))
+    → LineEnd file from (from + length (leading (belowIn table 3) (drop from file)))
 line-end {table} c file from bytes = record {
   further = omega arith;
   ends = λ h. not-false _ (sym (below-terminate c (getD file (from + size) 0) (bytes (from + size))) ∙ run-fails below file size from refl h);
@@ -89,7 +89,7 @@ line-end {table} c file from bytes = record {
     below b = belowIn table 3 b
 
     size : ℕ
-    size = length (run below (drop from file))
+    size = length (leading below (drop from file))
 
     over : (m : ℕ) → m < length file → below (getD file m 0) ≡ true
         → endOf (length file) m (field (drop m file)) ≡ endOf (length file) (m + 1) (field (drop (m + 1) file))

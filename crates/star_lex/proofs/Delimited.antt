@@ -11,7 +11,7 @@ use lib.ListN.{length, drop}
 use lib.Seq.{drop-append-seam}
 use Rattle.star_text.specs.Bytes.{isBlank, isTerminate, isWhite}
 use Rattle.star_lex.specs.Split.{token, faulty, starts, whiteNext, quoted, lineEnd, closes, closeLength, field, fieldLexeme}
-use Rattle.star_lex.specs.WellFormed.{quotable, fieldable, startsWhite}
+use Rattle.star_lex.proofs.Formed.{quotable, fieldable, startsWhite}
 use Rattle.star_lex.proofs.Cases.{impossible, cond-cases}
 
 -- of a list before a byte that is not white space, the first byte decides

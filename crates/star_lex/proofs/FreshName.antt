@@ -11,7 +11,7 @@ use lib.Dec.{eqb, ltb}
 use lib.ListN.{length}
 use Rattle.star_text.specs.Bytes.{isPrintable, all}
 use Rattle.star_lex.specs.Rules.{Rules}
-use Rattle.star_lex.specs.WellFormed.{FormedBy, name}
+use Rattle.star_lex.proofs.Formed.{FormedBy, name}
 use Rattle.star_lex.proofs.Cases.{impossible}
 
 -- what follows a first byte in the names that begin with it

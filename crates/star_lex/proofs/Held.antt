@@ -1,9 +1,9 @@
 -- What a table that holds a file's tokens says of each: its words are those of its row, and its span is a part of the file, as every token of a
 -- split is.
 use mathlib.Core.Path.{_≡_, refl, sym, _∙_, ap}
-use mathlib.Core.List.{List, [], _∷_, map}
+use mathlib.Core.List.{List, [], map}
 use mathlib.Core.Option.{some}
-use Prim.Native.Nat.{ℕ, zero, suc, _+_, _-_, _*_, _≤_, _<_}
+use Prim.Native.Nat.{ℕ, _+_, _-_, _*_, _≤_, _<_}
 use native.Mathlib.Nat.{add-zero}
 use native.Mathlib.Omega.{arith}
 use borrow.Author.Tests.{le-leb}
@@ -15,7 +15,7 @@ use Rattle.star_lex.specs.Tokens.{Placed, Each, opening, tokenRow}
 use Rattle.star_text.specs.Outcome.{refused, accepted}
 use Rattle.star_lex.specs.Split.{Split, tokensOf, placed}
 use Rattle.star_lex.specs.Table.{contentIn, orEmpty, firstByte}
-use Rattle.star_lex.specs.Found.{tokensIn, tableOf}
+use Rattle.star_lex.specs.Answer.{tokensIn, tableOf}
 use Rattle.star_lex.proofs.Table.{part-whole, content-row}
 use Rattle.star_lex.proofs.Parts.{PartOf, split-parts, split-count, contentEnd}
 use Rattle.star_lex.proofs.Each.{each-at}

@@ -9,11 +9,11 @@ use native.Mathlib.Omega.{arith}
 use borrow.Author.Tests.{leb-true, eqb-true}
 use lib.Dec.{eqb, leb}
 use lib.ListN.{length, drop, length-append}
-use Rattle.star_text.specs.Bytes.{isBlank, isTerminate, isWhite, isPrintable, isAllowed, all, run}
+use Rattle.star_text.specs.Bytes.{isBlank, isTerminate, isWhite, isPrintable, isAllowed, all, leading}
 use Rattle.star_lex.specs.Rules.{Rules}
 use Rattle.star_lex.specs.Tokens.{Token, opening, dataWord, saveWord, loopWord, stopWord, globalWord}
 use Rattle.star_lex.specs.Split.{token, after, whiteNext, quoted, field, limited, blockWord, frameWord, alone, nameWord, referenceWord, wordLexeme, wordFrom, quotedLexeme, fieldLexeme, lexeme}
-use Rattle.star_lex.specs.WellFormed.{FormedBy, Ordinary, quotable, block, frame, frameEnd, loop, stop, name, word, reference, single, double, text, global}
+use Rattle.star_lex.proofs.Formed.{FormedBy, Ordinary, quotable, block, frame, frameEnd, loop, stop, name, word, reference, single, double, text, global}
 use Rattle.star_text.proofs.Bytes.{eqb-comm, allowed-printable, all-head, all-tail, all-append, run-append-drop, all-printable-run}
 use Rattle.star_lex.proofs.Cases.{impossible, cond-cases, either-cases}
 use Rattle.star_lex.proofs.Words.{after-append}
@@ -176,10 +176,10 @@ quotedLexeme-token rules kind q b bs more t n w o f a e = go (quoted q bs) refl 
 
 word-token : (rules : Rules) (b : ℕ) (bs : List ℕ) (more : ℕ) (t : Token) → all isAllowed (b ∷ bs) ≡ true
     → isWhite b ≡ false → eqb b 35 ≡ false → eqb b 39 ≡ false → eqb b 34 ≡ false
-    → wordLexeme rules (length (run (λ c. not (isWhite c)) bs)) (b ∷ run (λ c. not (isWhite c)) bs) ≡ token more t → TokenAt rules b bs more t
+    → wordLexeme rules (length (leading (λ c. not (isWhite c)) bs)) (b ∷ leading (λ c. not (isWhite c)) bs) ≡ token more t → TokenAt rules b bs more t
 unfolding all
 word-token rules b bs more t a no-white no-comment no-quote no-double e =
-    let w : List ℕ = run (λ c. not (isWhite c)) bs in
+    let w : List ℕ = leading (λ c. not (isWhite c)) bs in
     let p : all isPrintable (b ∷ w) ≡ true = rw (allowed-printable b (all-head isAllowed b bs a) no-white, all-printable-run bs (all-tail isAllowed b bs a)) in
     let o : WordOf rules (length w) (b ∷ w) more t = wordLexeme-token rules (length w) b w more t p no-comment no-quote no-double e in
     record {

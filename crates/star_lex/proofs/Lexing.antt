@@ -11,14 +11,14 @@ use native.Mathlib.Omega.{arith}
 use lib.Dec.{leb}
 use lib.ListN.{length, getD, take, drop, length-append, length-drop}
 use lib.Seq.{drop-cons, drop-drop, getD-drop}
-use Rattle.star_text.specs.Bytes.{isWhite, Classes, belowIn, run}
+use Rattle.star_text.specs.Bytes.{isWhite, Classes, belowIn, leading}
 use Rattle.star_text.proofs.Classes.{run-word}
 use Rattle.star_text.proofs.Run.{run-take}
 use Rattle.star_lex.specs.Rules.{Rules}
 use Rattle.star_lex.specs.Tokens.{opening, dataWord, saveWord, loopWord, stopWord, globalWord}
 use Rattle.star_lex.specs.Split.{Lexeme, gap, token, faulty, after, either, quoted, field, whiteNext, limited, blockWord, frameWord, alone, nameWord, referenceWord, wordLexeme, quotedLexeme, fieldLexeme}
-use Rattle.star_lex.specs.Found.{foundAt, endOf, kindOf}
-use Rattle.star_lex.specs.declared.Found.the-variants.{Token as FoundToken, Fault}
+use Rattle.star_lex.specs.Answer.{scannedAt, endOf, wordAnswer}
+use Rattle.star_lex.specs.declared.Scanned.the-variants.{Token as FoundToken, Fault}
 use Rattle.star_lex.specs.declared.word.Word.the-variants.{Kind, Ill}
 use Rattle.star_lex.proofs.Cases.{impossible}
 use Rattle.star_lex.proofs.Delimited.{quoted-some, field-some, fieldLexeme-some}
@@ -46,8 +46,8 @@ module _ (file : List ℕ) (at : ℕ) (inside : at < length file) where
       omega (arith, length-drop (at + 1) file, simp length-append at (ap length s))
 
   pub field-open : endOf (length file) (at + 1) (field (drop (at + 1) file)) ≡ length file
-      → foundAt at (fieldLexeme (field (drop (at + 1) file)) (drop (at + 1) file)) ≡ Fault 6
-  unfolding foundAt fieldLexeme rest
+      → scannedAt at (fieldLexeme (field (drop (at + 1) file)) (drop (at + 1) file)) ≡ Fault 6
+  unfolding scannedAt fieldLexeme rest
   field-open e = rw (none-of (length file) (at + 1) (field rest) (λ c q. omega (arith, field-fits c q)) e)
 
   pub field-within : (endOf (length file) (at + 1) (field (drop (at + 1) file)) ≡ length file → ⊥)
@@ -58,22 +58,22 @@ module _ (file : List ℕ) (at : ℕ) (inside : at < length file) where
       rw q (field-fits c q)
 
   field-closed : (c : List ℕ) (t : Bool) → field rest ≡ some c → whiteNext (drop (endOf (length file) (at + 1) (field rest) + 2) file) ≡ t
-      → foundAt at (fieldLexeme (field rest) rest)
+      → scannedAt at (fieldLexeme (field rest) rest)
       ≡ cond t (FoundToken 11 (at + 1) (endOf (length file) (at + 1) (field rest)) (endOf (length file) (at + 1) (field rest) + 2)) (Fault 6)
-  unfolding foundAt endOf rest opening
+  unfolding scannedAt endOf rest opening
   field-closed c t q w =
       let e : at + 1 + (length c + 2) ≡ at + 1 + length c + 2 = omega arith in
       rw (q, fieldLexeme-some rest c q, drop-drop, e, rw q at w) (ends t e)
     where
       ends : (t : Bool) → at + 1 + (length c + 2) ≡ at + 1 + length c + 2
-          → foundAt at (cond t (token (length c + 2) (record { kind = 11; content = c })) (faulty 6))
+          → scannedAt at (cond t (token (length c + 2) (record { kind = 11; content = c })) (faulty 6))
           ≡ cond t (FoundToken 11 (at + 1) (at + 1 + length c) (at + 1 + length c + 2)) (Fault 6)
       ends true f = ap (FoundToken 11 (at + 1) (at + 1 + length c)) f
       ends false f = refl
 
   pub field-found : (t : Bool) → (endOf (length file) (at + 1) (field (drop (at + 1) file)) ≡ length file → ⊥)
       → whiteNext (drop (endOf (length file) (at + 1) (field (drop (at + 1) file)) + 2) file) ≡ t
-      → foundAt at (fieldLexeme (field (drop (at + 1) file)) (drop (at + 1) file))
+      → scannedAt at (fieldLexeme (field (drop (at + 1) file)) (drop (at + 1) file))
       ≡ cond t (FoundToken 11 (at + 1) (endOf (length file) (at + 1) (field (drop (at + 1) file)))
       (endOf (length file) (at + 1) (field (drop (at + 1) file)) + 2)) (Fault 6)
   unfolding rest
@@ -89,8 +89,8 @@ module _ (file : List ℕ) (at : ℕ) (inside : at < length file) where
         omega (arith, length-drop (at + 1) file, simp length-append at (ap length s))
 
     pub quote-open : endOf (length file) (at + 1) (quoted quote (drop (at + 1) file)) ≡ length file
-        → foundAt at (quotedLexeme kind (quoted quote (drop (at + 1) file))) ≡ Fault 5
-    unfolding foundAt quotedLexeme rest
+        → scannedAt at (quotedLexeme kind (quoted quote (drop (at + 1) file))) ≡ Fault 5
+    unfolding scannedAt quotedLexeme rest
     quote-open e = rw (none-of (length file) (at + 1) (quoted quote rest) (λ c q. omega (arith, quoted-fits c q)) e)
 
     pub quote-within : (endOf (length file) (at + 1) (quoted quote (drop (at + 1) file)) ≡ length file → ⊥)
@@ -101,15 +101,15 @@ module _ (file : List ℕ) (at : ℕ) (inside : at < length file) where
         rw q (quoted-fits c q)
 
     quote-closed : (c : List ℕ) → length (opening kind) ≡ 1 → quoted quote rest ≡ some c
-        → foundAt at (quotedLexeme kind (quoted quote rest))
+        → scannedAt at (quotedLexeme kind (quoted quote rest))
         ≡ FoundToken kind (at + 1) (endOf (length file) (at + 1) (quoted quote rest)) (endOf (length file) (at + 1) (quoted quote rest) + 1)
-    unfolding foundAt quotedLexeme endOf rest
+    unfolding scannedAt quotedLexeme endOf rest
     quote-closed c o q =
         let f : at + 1 + suc (length c) ≡ at + 1 + length c + 1 = omega arith in
         rw (q, o, f)
 
     pub quote-token : length (opening kind) ≡ 1 → (endOf (length file) (at + 1) (quoted quote (drop (at + 1) file)) ≡ length file → ⊥)
-        → foundAt at (quotedLexeme kind (quoted quote (drop (at + 1) file)))
+        → scannedAt at (quotedLexeme kind (quoted quote (drop (at + 1) file)))
         ≡ FoundToken kind (at + 1) (endOf (length file) (at + 1) (quoted quote (drop (at + 1) file)))
         (endOf (length file) (at + 1) (quoted quote (drop (at + 1) file)) + 1)
     unfolding rest
@@ -180,13 +180,13 @@ word-shaped rules more w =
     n = length w
 
 -- what a word's kind tells of its token at a place
-pub word-found : (rules : Rules) (at more k : ℕ) (w : List ℕ) → suc more ≡ length w → Kind k ≡ kindOf (wordLexeme rules more w)
-    → foundAt at (wordLexeme rules more w) ≡ FoundToken k (at + length (opening k)) (at + 1 + more) (at + 1 + more)
-unfolding foundAt kindOf
+pub word-found : (rules : Rules) (at more k : ℕ) (w : List ℕ) → suc more ≡ length w → Kind k ≡ wordAnswer (wordLexeme rules more w)
+    → scannedAt at (wordLexeme rules more w) ≡ FoundToken k (at + length (opening k)) (at + 1 + more) (at + 1 + more)
+unfolding scannedAt wordAnswer
 word-found rules at more k w s e = go (wordLexeme rules more w) (word-shaped rules more w) e
   where
-    go : (l : Lexeme) → Shaped more (length w) l → Kind k ≡ kindOf l
-        → foundAt at l ≡ FoundToken k (at + length (opening k)) (at + 1 + more) (at + 1 + more)
+    go : (l : Lexeme) → Shaped more (length w) l → Kind k ≡ wordAnswer l
+        → scannedAt at l ≡ FoundToken k (at + length (opening k)) (at + 1 + more) (at + 1 + more)
     go (gap m) h q = absurd h
     go (token m t) h q =
         let p : t .kind ≡ k = cc in
@@ -195,31 +195,31 @@ word-found rules at more k w s e = go (wordLexeme rules more w) (word-shaped rul
     go (faulty n) h q = impossible cc
 
 -- what stands before a word's content is of the word
-pub word-lead : (rules : Rules) (more k : ℕ) (w : List ℕ) → Kind k ≡ kindOf (wordLexeme rules more w) → length (opening k) ≤ length w
-unfolding kindOf
+pub word-lead : (rules : Rules) (more k : ℕ) (w : List ℕ) → Kind k ≡ wordAnswer (wordLexeme rules more w) → length (opening k) ≤ length w
+unfolding wordAnswer
 word-lead rules more k w e = go (wordLexeme rules more w) (word-shaped rules more w) e
   where
-    go : (l : Lexeme) → Shaped more (length w) l → Kind k ≡ kindOf l → length (opening k) ≤ length w
+    go : (l : Lexeme) → Shaped more (length w) l → Kind k ≡ wordAnswer l → length (opening k) ≤ length w
     go (gap m) h q = absurd h
     go (token m t) h q = let p : length (opening k) ≡ length (opening (t .kind)) = cc in omega arith
     go (faulty n) h q = impossible cc
 
-pub word-ill : (rules : Rules) (at more n : ℕ) (w : List ℕ) → Ill n ≡ kindOf (wordLexeme rules more w) → foundAt at (wordLexeme rules more w) ≡ Fault n
-unfolding foundAt kindOf
+pub word-ill : (rules : Rules) (at more n : ℕ) (w : List ℕ) → Ill n ≡ wordAnswer (wordLexeme rules more w) → scannedAt at (wordLexeme rules more w) ≡ Fault n
+unfolding scannedAt wordAnswer
 word-ill rules at more n w e = go (wordLexeme rules more w) (word-shaped rules more w) e
   where
-    go : (l : Lexeme) → Shaped more (length w) l → Ill n ≡ kindOf l → foundAt at l ≡ Fault n
+    go : (l : Lexeme) → Shaped more (length w) l → Ill n ≡ wordAnswer l → scannedAt at l ≡ Fault n
     go (gap m) h q = absurd h
     go (token m t) h q = impossible cc
     go (faulty k) h q = let p : n ≡ k = cc in ap Fault (sym p)
 
 -- the part of the file from a byte up to white space
 pub word-part : {table : List ℕ} → Classes table → (file : List ℕ) (at end : ℕ) → at < length file → ((i : ℕ) → getD file i 0 < 256)
-    → end ≡ at + 1 + length (run (belowIn table 2) (drop (at + 1) file))
-    → (end ≡ at + 1 + length (run (λ c. not (isWhite c)) (drop (at + 1) file)))
-    × (take (end - at) (drop at file) ≡ getD file at 0 ∷ run (λ c. not (isWhite c)) (drop (at + 1) file))
+    → end ≡ at + 1 + length (leading (belowIn table 2) (drop (at + 1) file))
+    → (end ≡ at + 1 + length (leading (λ c. not (isWhite c)) (drop (at + 1) file)))
+    × (take (end - at) (drop at file) ≡ getD file at 0 ∷ leading (λ c. not (isWhite c)) (drop (at + 1) file))
 word-part c file at end h bytes e =
-    let f : end ≡ at + 1 + length (run (λ c. not (isWhite c)) (drop (at + 1) file)) =
+    let f : end ≡ at + 1 + length (leading (λ c. not (isWhite c)) (drop (at + 1) file)) =
     e ∙ ap (λ r. at + 1 + length r) (run-word c (drop (at + 1) file) (λ i. rw getD-drop (bytes (at + 1 + i)))) in
-    let n : end - at ≡ suc (length (run (λ c. not (isWhite c)) (drop (at + 1) file))) = omega arith in
+    let n : end - at ≡ suc (length (leading (λ c. not (isWhite c)) (drop (at + 1) file))) = omega arith in
     (f, rw (n, drop-cons file at 0 h, ← add-one at) (ap (λ r. getD file at 0 ∷ r) (run-take (λ c. not (isWhite c)) (drop (at + 1) file))))

@@ -1,3 +1,4 @@
+pub mod Formed
 pub mod Answers
 pub mod Cases
 pub mod Closing

@@ -14,7 +14,7 @@ use Rattle.star_lex.specs.Rules.{Rules, today}
 use Rattle.star_lex.specs.Tokens.{Token, Placed, Each, opening, dataWord, saveWord, loopWord, stopWord, globalWord}
 use Rattle.star_text.specs.Outcome.{accepted}
 use Rattle.star_lex.specs.Split.{tokensBy, tokensOf}
-use Rattle.star_lex.specs.WellFormed.{FormedBy, block, frame, frameEnd, loop, stop, name, word, reference, single, double, text, global}
+use Rattle.star_lex.proofs.Formed.{FormedBy, block, frame, frameEnd, loop, stop, name, word, reference, single, double, text, global}
 use Rattle.star_text.proofs.Bytes.{all-tail}
 use Rattle.star_lex.proofs.Lexemes.{TokenAt, lexeme-token}
 use Rattle.star_lex.proofs.Steps.{Steps, ends, within, passes, takes, accepted-steps, accepted-allowed}

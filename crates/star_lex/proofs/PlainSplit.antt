@@ -18,7 +18,7 @@ use Rattle.star_lex.specs.Tokens.{Token, Placed, Each, opening, dataWord
 use Rattle.star_text.specs.Outcome.{accepted, then, need}
 use Rattle.star_lex.specs.Split.{token, after, starts, whiteNext, quoted, field, limited, blockWord, frameWord, alone, nameWord, referenceWord, either, wordLexeme, wordFrom, quotedLexeme, lexeme, moreOf, before, enter, split, tokensBy, tokensOf}
 use Rattle.star_lex.specs.Plain.{newline, closing, indent, plainToken, plainOf}
-use Rattle.star_lex.specs.WellFormed.{FormedBy, WellFormed, Ordinary, quotable, fieldable, block, frame, frameEnd, loop, stop, name, word, reference, single, double, text, global}
+use Rattle.star_lex.proofs.Formed.{FormedBy, WellFormed, Ordinary, quotable, fieldable, block, frame, frameEnd, loop, stop, name, word, reference, single, double, text, global}
 use Rattle.star_text.proofs.Bytes.{eqb-comm, printable-not-white, printable-allowed, not-white-not-terminate, all-head, all-tail, all-append, all-cond, all-implies, run-append, run-all}
 use Rattle.star_lex.proofs.Delimited.{quoted-append, field-append, fieldLexeme-some}
 

@@ -13,14 +13,14 @@ use lib.Seq.{drop-cons, drop-drop}
 use Rattle.star_rows.specs.Widths.{tokenWidth}
 use Rattle.star_rows.specs.Rows.{putRow, stored}
 use Rattle.star_rows.proofs.Stored.{stored-none, stored-more}
-use Rattle.star_text.specs.Bytes.{isBlank, isTerminate, isWhite, run}
+use Rattle.star_text.specs.Bytes.{isBlank, isTerminate, isWhite, leading}
 use Rattle.star_text.proofs.Run.{run-length}
 use Rattle.star_lex.specs.Rules.{today}
 use Rattle.star_lex.specs.Tokens.{Token, Placed, opening, tokenRow}
 use Rattle.star_text.specs.Outcome.{refused, accepted, then}
 use Rattle.star_lex.specs.Split.{Lexeme, gap, token, faulty, Split, whiteNext, quoted, field, quotedLexeme, fieldLexeme, wordLexeme, wordFrom, lexeme, moreOf, before, enter, split}
-use Rattle.star_lex.specs.Found.{foundAt}
-use Rattle.star_lex.specs.declared.Found.the-variants.{Gap, Token as FoundToken, Fault}
+use Rattle.star_lex.specs.Answer.{scannedAt}
+use Rattle.star_lex.specs.declared.Scanned.the-variants.{Gap, Token as FoundToken, Fault}
 use Rattle.star_lex.proofs.Cases.{impossible}
 use Rattle.star_lex.proofs.Delimited.{quoted-some, field-some, fieldLexeme-some}
 use Rattle.star_lex.proofs.Lexing.{Shaped, word-shaped}
@@ -107,11 +107,11 @@ quoted-within q kind bs (some c) w k e =
     let n : length bs ≡ length c + suc (length rest) = simp length-append at (ap length s) in
     (omega arith, omega arith)
 
-run-within : (p : ℕ → Bool) (b : ℕ) (bs : List ℕ) → Within (length bs) (wordLexeme today (length (run p bs)) (b ∷ run p bs))
+run-within : (p : ℕ → Bool) (b : ℕ) (bs : List ℕ) → Within (length bs) (wordLexeme today (length (leading p bs)) (b ∷ leading p bs))
 run-within p b bs = go (wordLexeme today (length w) (b ∷ w)) (word-shaped today (length w) (b ∷ w)) (run-length p bs)
   where
     w : List ℕ
-    w = run p bs
+    w = leading p bs
 
     go : (l : Lexeme) → Shaped (length w) (suc (length w)) l → length w ≤ length bs → Within (length bs) l
     go (gap m) h k = absurd h
@@ -167,8 +167,8 @@ split-refused zero line at (b ∷ bs) n place e =
 split-refused (suc skip) line at (b ∷ bs) n place e = later-faulty at (length bs) n place (split-refused skip false (suc at) bs n place e)
 
 -- what is found tells the lexeme
-gap-of : (at next : ℕ) (l : Lexeme) → foundAt at l ≡ Gap next → (more : ℕ) × (l ≡ gap more) × (next ≡ at + 1 + more)
-unfolding foundAt
+gap-of : (at next : ℕ) (l : Lexeme) → scannedAt at l ≡ Gap next → (more : ℕ) × (l ≡ gap more) × (next ≡ at + 1 + more)
+unfolding scannedAt
 gap-of at next (gap m) e = (m, refl, cc)
 gap-of at next (token m t) e = impossible cc
 gap-of at next (faulty n) e = impossible cc
@@ -182,8 +182,8 @@ record TokenFound (at k start end next : ℕ) (l : Lexeme) : Type 0 where
   ends : end ≡ start + length (found .content)
   begins : start ≡ at + length (opening (found .kind))
 
-token-of : (at k start end next : ℕ) (l : Lexeme) → foundAt at l ≡ FoundToken k start end next → TokenFound at k start end next l
-unfolding foundAt tokenRow
+token-of : (at k start end next : ℕ) (l : Lexeme) → scannedAt at l ≡ FoundToken k start end next → TokenFound at k start end next l
+unfolding scannedAt tokenRow
 token-of at k start end next (gap m) e = impossible cc
 token-of at k start end next (token m t) e =
     let a : t .kind ≡ k = cc in
@@ -193,8 +193,8 @@ token-of at k start end next (token m t) e =
     record { more = m; found = t; is = refl; row = cc; past = sym f; ends = cc; begins = sym b }
 token-of at k start end next (faulty n) e = impossible cc
 
-fault-of : (at n : ℕ) (l : Lexeme) → foundAt at l ≡ Fault n → l ≡ faulty n
-unfolding foundAt
+fault-of : (at n : ℕ) (l : Lexeme) → scannedAt at l ≡ Fault n → l ≡ faulty n
+unfolding scannedAt
 fault-of at n (gap m) e = impossible cc
 fault-of at n (token m t) e = impossible cc
 fault-of at n (faulty m) e = let q : m ≡ n = cc in ap faulty q
@@ -241,7 +241,7 @@ module _ (file table₀ table : List ℕ) (at count : ℕ) (line : Bool) (p : Pr
   unfolding here rest
   room l e = subst (Within (length file - (at + 1))) e (rw (length-drop (at + 1) file) at (lexeme-within line (getD file at 0) rest))
 
-  pub turn-gap : (next : ℕ) → foundAt at (lexeme today line (getD file at 0) (drop (at + 1) file)) ≡ Gap next
+  pub turn-gap : (next : ℕ) → scannedAt at (lexeme today line (getD file at 0) (drop (at + 1) file)) ≡ Gap next
       → Progress file table₀ table next count (isTerminate (getD file at 0)) × (at < next)
   unfolding here rest enter moreOf
   turn-gap next e =
@@ -258,7 +258,7 @@ module _ (file table₀ table : List ℕ) (at count : ℕ) (line : Bool) (p : Pr
         omega arith,
       )
 
-  pub turn-token : (k start end next : ℕ) → foundAt at (lexeme today line (getD file at 0) (drop (at + 1) file)) ≡ FoundToken k start end next
+  pub turn-token : (k start end next : ℕ) → scannedAt at (lexeme today line (getD file at 0) (drop (at + 1) file)) ≡ FoundToken k start end next
       → Progress file table₀ (putRow (k ∷ start ∷ end ∷ []) count table) next (count + 1) (isTerminate (getD file at 0))
       × (at < next) × (start ≤ length file) × (end ≤ length file)
   unfolding here rest enter moreOf
@@ -287,7 +287,7 @@ module _ (file table₀ table : List ℕ) (at count : ℕ) (line : Bool) (p : Pr
         omega (arith, w .0, w .1, f .begins, f .ends),
       )
 
-  pub turn-fault : (n : ℕ) → foundAt at (lexeme today line (getD file at 0) (drop (at + 1) file)) ≡ Fault n → split today 0 true 0 file ≡ refused n at
+  pub turn-fault : (n : ℕ) → scannedAt at (lexeme today line (getD file at 0) (drop (at + 1) file)) ≡ Fault n → split today 0 true 0 file ≡ refused n at
   unfolding here rest enter
   turn-fault n e = after-here (faulty n) (fault-of at n here e) ∙ all-before-refused (p .done) n at
 

@@ -7,10 +7,10 @@ use Prim.Native.Nat.{ℕ, zero, suc}
 use borrow.Author.Tests.{leb-true}
 use lib.Dec.{leb}
 use lib.ListN.{length}
-use Rattle.star_text.specs.Bytes.{isTerminate, isAllowed, all, run, firstRefused}
+use Rattle.star_text.specs.Bytes.{isTerminate, isAllowed, all, leading, firstRefused}
 use Rattle.star_lex.specs.Rules.{Rules}
 use Rattle.star_lex.specs.Tokens.{Token, Placed}
-use Rattle.star_text.specs.Outcome.{accepted, refused, then, need}
+use Rattle.star_text.specs.Outcome.{accepted, refused, then}
 use Rattle.star_text.proofs.Outcome.{need-accepted}
 use Rattle.star_lex.specs.Split.{Lexeme, gap, token, faulty, Split, lexeme, moreOf, before, enter, split, tokensBy}
 use Rattle.star_text.proofs.Bytes.{all-of-run}
@@ -47,7 +47,7 @@ steps rules (suc skip) line at (b ∷ bs) ps e = within (steps rules skip false 
 pub accepted-allowed : (rules : Rules) (file : List ℕ) (ps : List Placed) → tokensBy rules file ≡ accepted ps → all isAllowed file ≡ true
 unfolding tokensBy firstRefused
 accepted-allowed rules file ps e =
-    all-of-run isAllowed file (leb-true _ _ (need-accepted (leb (length file) (length (run isAllowed file))) 2 _ _ ps e .0))
+    all-of-run isAllowed file (leb-true _ _ (need-accepted (leb (length file) (length (leading isAllowed file))) 2 _ _ ps e .0))
 
 pub accepted-steps : (rules : Rules) (file : List ℕ) (ps : List Placed) → tokensBy rules file ≡ accepted ps → Steps rules 0 true 0 file ps
 unfolding tokensBy

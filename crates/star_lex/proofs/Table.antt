@@ -1,5 +1,5 @@
 -- Laws of the content that a row of table 1 spans: what the checks in their order leave of the definition.
-use mathlib.Core.Path.{_≡_, refl, sym, _∙_, ap}
+use mathlib.Core.Path.{_≡_, refl, _∙_}
 use mathlib.Core.Bool.{Bool, true, false, cond, _&&_}
 use mathlib.Core.List.{List, []}
 use mathlib.Core.Option.{Option, none, some}
@@ -9,7 +9,7 @@ use lib.Dec.{leb}
 use lib.ListN.{length, getD, take, drop}
 use Rattle.star_rows.specs.Widths.{tokenWidth}
 use Rattle.star_lex.specs.Tokens.{opening}
-use Rattle.star_lex.specs.Found.{isSome}
+use Rattle.star_lex.specs.Answer.{isSome}
 use Rattle.star_lex.specs.Table.{partOf, contentIn, orEmpty, startIn, firstByte}
 use Rattle.star_lex.proofs.Cases.{impossible}
 

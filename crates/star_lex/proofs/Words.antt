@@ -13,7 +13,7 @@ use lib.Seq.{drop-cons}
 use Rattle.star_lex.specs.Rules.{Rules}
 use Rattle.star_lex.specs.Tokens.{dataWord, saveWord, loopWord, stopWord, globalWord}
 use Rattle.star_lex.specs.Split.{token, after, either, alone, blockWord, frameWord, nameWord, referenceWord, limited, wordLexeme}
-use Rattle.star_lex.specs.Found.{isSome}
+use Rattle.star_lex.specs.Answer.{isSome}
 use Rattle.star_lex.proofs.Cases.{impossible, cond-cases}
 
 module _ (p w : List ℕ) (i : ℕ) where

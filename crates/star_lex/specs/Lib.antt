@@ -2,8 +2,7 @@ pub mod Rules
 pub mod Tokens
 pub mod Split
 pub mod Plain
-pub mod WellFormed
-pub mod Found
+pub mod Answer
 pub mod LineEnd
 pub mod Table
 pub mod Holds

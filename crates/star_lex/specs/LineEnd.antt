@@ -6,7 +6,7 @@ use Prim.Native.Nat.{ℕ, _≤_, _<_}
 use lib.ListN.{length, getD, drop}
 use Rattle.star_text.specs.Bytes.{isTerminate}
 use Rattle.star_lex.specs.Split.{field}
-use Rattle.star_lex.specs.Found.{endOf}
+use Rattle.star_lex.specs.Answer.{endOf}
 
 -- a terminate, or the end; a text field closes from there on where it closes from the place on
 pub record LineEnd (file : List ℕ) (from at : ℕ) : Type 0 where

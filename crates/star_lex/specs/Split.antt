@@ -6,7 +6,7 @@ use Prim.Native.Nat.{ℕ, zero, suc, _+_}
 use lib.Dec.{eqb, leb}
 use lib.ListN.{length, drop}
 use Rattle.star_text.specs.Outcome.{Outcome, refused, accepted, then, need}
-use Rattle.star_text.specs.Bytes.{isTerminate, isWhite, run, firstRefused}
+use Rattle.star_text.specs.Bytes.{isTerminate, isWhite, leading, firstRefused}
 use Rattle.star_lex.specs.Rules.{Rules, today}
 use Rattle.star_lex.specs.Tokens.{Token, Placed, dataWord, saveWord, loopWord, stopWord, globalWord}
 
@@ -107,7 +107,7 @@ wordLexeme rules more w =
 
 -- a word: all bytes up to white space or the end
 unfoldable pub wordFrom : (rules : Rules) → ℕ → List ℕ → Lexeme
-wordFrom rules b bs = let w : List ℕ = run (λ c. not (isWhite c)) bs in wordLexeme rules (length w) (b ∷ w)
+wordFrom rules b bs = let w : List ℕ = leading (λ c. not (isWhite c)) bs in wordLexeme rules (length w) (b ∷ w)
 
 unfoldable pub quotedLexeme : ℕ → Option (List ℕ) → Lexeme
 quotedLexeme kind none = faulty 5
@@ -124,7 +124,7 @@ fieldLexeme (some c) bs =
 unfoldable pub lexeme : (rules : Rules) → Bool → ℕ → List ℕ → Lexeme
 lexeme rules line b bs =
     cond (isWhite b) (gap 0)
-    (cond (eqb b 35) (gap (length (run (λ c. not (isTerminate c)) bs)))
+    (cond (eqb b 35) (gap (length (leading (λ c. not (isTerminate c)) bs)))
     (cond (line && eqb b 59) (fieldLexeme (field bs) bs)
     (cond (eqb b 39) (quotedLexeme 9 (quoted 39 bs))
     (cond (eqb b 34) (quotedLexeme 10 (quoted 34 bs))

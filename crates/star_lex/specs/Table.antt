@@ -7,7 +7,7 @@ use lib.Dec.{leb}
 use lib.ListN.{length, getD, take, drop}
 use Rattle.star_rows.specs.Widths.{tokenWidth}
 use Rattle.star_lex.specs.Tokens.{opening}
-use Rattle.star_lex.specs.Found.{isSome}
+use Rattle.star_lex.specs.Answer.{isSome}
 
 -- the bytes of a file from a start up to an end; none where that is no part of it
 unfoldable pub partOf : List ℕ → (start end : ℕ) → Option (List ℕ)

@@ -13,12 +13,11 @@ ghost use mathlib.Core.Bool.{true, false, _&&_};
 ghost use lib.Dec.{eqb};
 ghost use Rattle.star_text.specs.Bytes.{mostBytes, Classes, isWhite};
 ghost use denote.Ref.{ptr};
-ghost use Rattle.star_text.specs.Bytes.{Classes, isWhite};
 ghost use Rattle.star_lex.specs.Rules.{today};
 ghost use Rattle.star_lex.specs.Tokens.{Placed, tokenRow, opening};
 ghost use Rattle.star_text.specs.Outcome.{refused, accepted};
 ghost use Rattle.star_lex.specs.Split.{quoted, field, fieldLexeme, quotedLexeme, wordFrom, split as Split·split, lexeme as Split·lexeme};
-ghost use Rattle.star_lex.specs.Found.{splitAnswer, Splits, foundAt, isSome};
+ghost use Rattle.star_lex.specs.Answer.{splitAnswer, Splits, scannedAt, isSome};
 ghost use Rattle.star_lex.specs.Table.{contentIn, orEmpty, startIn, firstByte, further};
 
 // The classes of bytes that white space and line ends begin with.
@@ -37,7 +36,7 @@ pub struct Tokens {
 }
 
 // What stands at a place outside tokens: white space or a comment, a token, or a fault.
-pub enum Found {
+pub enum Scanned {
     Gap(usize),
     Token {
         kind: u32,
@@ -49,40 +48,40 @@ pub enum Found {
 }
 
 // The text field whose `;` stands at `at`.
-fn text_field(classes: &[u8; 256], file: &[u8], at: usize) -> Found
+fn text_field(classes: &[u8; 256], file: &[u8], at: usize) -> Scanned
     requires { ⌜ at < length (now file) ⌝ }
     requires { ⌜ Classes (now classes) ⌝ }
-    ensures { λ r. ⌜ r ≡ foundAt at (fieldLexeme (field (drop (at + 1) (now (file .entry)))) (drop (at + 1) (now (file .entry)))) ⌝ }
+    ensures { λ r. ⌜ r ≡ scannedAt at (fieldLexeme (field (drop (at + 1) (now (file .entry)))) (drop (at + 1) (now (file .entry)))) ⌝ }
 {
     let end = scan::field_end(classes, file, at + 1);
     if end == file.len() {
-        return Found::Fault(6);
+        return Scanned::Fault(6);
     }
     if scan::white_at(classes, file, end + 2) {
-        Found::Token {
+        Scanned::Token {
             kind: 11,
             start: at + 1,
             end,
             next: end + 2,
         }
     } else {
-        Found::Fault(6)
+        Scanned::Fault(6)
     }
 }
 
 // The quoted string whose quote stands at `at`, a token of this kind.
-fn quoted_string(classes: &[u8; 256], file: &[u8], at: usize, kind: u32, quote: u8) -> Found
+fn quoted_string(classes: &[u8; 256], file: &[u8], at: usize, kind: u32, quote: u8) -> Scanned
     requires { ⌜ at < length (now file) ⌝ }
     requires { ⌜ length (opening kind) ≡ 1 ⌝ }
     requires { ⌜ isWhite quote ≡ false ⌝ }
     requires { ⌜ Classes (now classes) ⌝ }
-    ensures { λ r. ⌜ r ≡ foundAt at (quotedLexeme kind (quoted quote (drop (at + 1) (now (file .entry))))) ⌝ }
+    ensures { λ r. ⌜ r ≡ scannedAt at (quotedLexeme kind (quoted quote (drop (at + 1) (now (file .entry))))) ⌝ }
 {
     let end = scan::quote_end(classes, file, at + 1, quote);
     if end == file.len() {
-        Found::Fault(5)
+        Scanned::Fault(5)
     } else {
-        Found::Token {
+        Scanned::Token {
             kind,
             start: at + 1,
             end,
@@ -92,21 +91,21 @@ fn quoted_string(classes: &[u8; 256], file: &[u8], at: usize, kind: u32, quote: 
 }
 
 // The word that begins at `at`.
-fn word_at(classes: &[u8; 256], file: &[u8], at: usize) -> Found
+fn word_at(classes: &[u8; 256], file: &[u8], at: usize) -> Scanned
     requires { ⌜ at < length (now file) ⌝ }
     requires { ⌜ isWhite (getD (now file) at 0) ≡ false ⌝ }
     requires { ⌜ Classes (now classes) ⌝ }
-    ensures { λ r. ⌜ r ≡ foundAt at (wordFrom today (getD (now (file .entry)) at 0) (drop (at + 1) (now (file .entry)))) ⌝ }
+    ensures { λ r. ⌜ r ≡ scannedAt at (wordFrom today (getD (now (file .entry)) at 0) (drop (at + 1) (now (file .entry)))) ⌝ }
 {
     let end = star_text::run_end(classes, file, at + 1, BLANK);
     match word::word_kind(&file[at..end]) {
-        Word::Kind(kind) => Found::Token {
+        Word::Kind(kind) => Scanned::Token {
             kind,
             start: at + word::lead(kind),
             end,
             next: end,
         },
-        Word::Ill(number) => Found::Fault(number),
+        Word::Ill(number) => Scanned::Fault(number),
     }
 }
 
@@ -118,17 +117,17 @@ fn opens_field(line: bool, b: u8) -> bool
 }
 
 // What stands at a place outside tokens; whether a line starts there.
-fn lexeme(classes: &[u8; 256], file: &[u8], at: usize, line: bool) -> Found
+fn lexeme(classes: &[u8; 256], file: &[u8], at: usize, line: bool) -> Scanned
     requires { ⌜ at < length (now file) ⌝ }
     requires { ⌜ Classes (now classes) ⌝ }
-    ensures { λ r. ⌜ r ≡ foundAt at (Split·lexeme today line (getD (now (file .entry)) at 0) (drop (at + 1) (now (file .entry)))) ⌝ }
+    ensures { λ r. ⌜ r ≡ scannedAt at (Split·lexeme today line (getD (now (file .entry)) at 0) (drop (at + 1) (now (file .entry)))) ⌝ }
 {
     let b = file[at];
     if star_text::is_white(classes, b) {
-        return Found::Gap(at + 1);
+        return Scanned::Gap(at + 1);
     }
     if b == b'#' {
-        return Found::Gap(star_text::run_end(classes, file, at + 1, TERMINATE));
+        return Scanned::Gap(star_text::run_end(classes, file, at + 1, TERMINATE));
     }
     if opens_field(line, b) {
         return text_field(classes, file, at);
@@ -157,10 +156,10 @@ fn split(classes: &[u8; 256], file: &[u8], table: &mut [u32]) -> Tokens
         let found = lexeme(classes, file, at, line);
         line = star_text::is_terminate(classes, file[at]);
         match found {
-            Found::Gap(next) => {
+            Scanned::Gap(next) => {
                 at = next;
             }
-            Found::Token {
+            Scanned::Token {
                 kind,
                 start,
                 end,
@@ -170,7 +169,7 @@ fn split(classes: &[u8; 256], file: &[u8], table: &mut [u32]) -> Tokens
                 count += 1;
                 at = next;
             }
-            Found::Fault(number) => {
+            Scanned::Fault(number) => {
                 return Tokens {
                     refusal: number,
                     place: at as u32,

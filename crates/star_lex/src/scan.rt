@@ -6,7 +6,7 @@ ghost use lib.Dec.{eqb};
 ghost use lib.ListN.{length, getD, drop};
 ghost use Rattle.star_text.specs.Bytes.{Classes};
 ghost use Rattle.star_lex.specs.Split.{quoted, field, starts, whiteNext};
-ghost use Rattle.star_lex.specs.Found.{endOf};
+ghost use Rattle.star_lex.specs.Answer.{endOf};
 ghost use Rattle.star_lex.specs.LineEnd.{LineEnd};
 
 // The class of bytes that end a line.

@@ -7,7 +7,7 @@ ghost use lib.ListN.{length};
 ghost use Rattle.star_lex.specs.Rules.{today};
 ghost use Rattle.star_lex.specs.Tokens.{opening};
 ghost use Rattle.star_lex.specs.Split.{after, limited, wordLexeme, alone as Split·alone};
-ghost use Rattle.star_lex.specs.Found.{isSome, kindOf};
+ghost use Rattle.star_lex.specs.Answer.{isSome, wordAnswer};
 
 // The most bytes that a name or a code may have.
 const LONGEST: usize = 32;
@@ -58,7 +58,7 @@ fn begins(word: &[u8], first: &[u8]) -> bool
 
 // A name or code of so many bytes.
 fn limit(kind: u32, len: usize) -> Word
-    ensures { λ r. ⌜ ((more : ℕ) (content : List ℕ) → length content ≡ len → r ≡ kindOf (limited today more kind content)) ⌝ }
+    ensures { λ r. ⌜ ((more : ℕ) (content : List ℕ) → length content ≡ len → r ≡ wordAnswer (limited today more kind content)) ⌝ }
 {
     if LONGEST < len {
         Word::Ill(4)
@@ -69,7 +69,7 @@ fn limit(kind: u32, len: usize) -> Word
 
 // A keyword that stands alone, with so many bytes after it.
 fn alone(kind: u32, rest: usize) -> Word
-    ensures { λ r. ⌜ ((more : ℕ) (w others : List ℕ) → length others ≡ rest → r ≡ kindOf (Split·alone more kind w others)) ⌝ }
+    ensures { λ r. ⌜ ((more : ℕ) (w others : List ℕ) → length others ≡ rest → r ≡ wordAnswer (Split·alone more kind w others)) ⌝ }
 {
     if rest == 0 {
         Word::Kind(kind)
@@ -82,7 +82,7 @@ fn alone(kind: u32, rest: usize) -> Word
 fn keyword(word: &[u8]) -> Word
     requires { ⌜ isSome (after (95 ∷ []) (now word)) ≡ false ⌝ }
     requires { ⌜ isSome (after (36 ∷ []) (now word)) ≡ false ⌝ }
-    ensures { λ r. ⌜ ((more : ℕ) → r ≡ kindOf (wordLexeme today more (now (word .entry)))) ⌝ }
+    ensures { λ r. ⌜ ((more : ℕ) → r ≡ wordAnswer (wordLexeme today more (now (word .entry)))) ⌝ }
 {
     let len = word.len();
     if begins(word, b"data_") {
@@ -111,7 +111,7 @@ fn keyword(word: &[u8]) -> Word
 
 // The kind of a word.
 pub(crate) fn word_kind(word: &[u8]) -> Word
-    ensures { λ r. ⌜ ((more : ℕ) → r ≡ kindOf (wordLexeme today more (now (word .entry)))) ⌝ }
+    ensures { λ r. ⌜ ((more : ℕ) → r ≡ wordAnswer (wordLexeme today more (now (word .entry)))) ⌝ }
 {
     let len = word.len();
     if len == 0 {

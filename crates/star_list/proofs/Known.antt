@@ -2,10 +2,10 @@
 use mathlib.Core.Path.{_≡_, refl, ap}
 use mathlib.Core.List.{[], _∷_, flatMap}
 use Rattle.star_text.specs.Outcome.{then, need}
-use Rattle.star_text.specs.Bytes.{isBlank, isTerminate, isWhite, isPrintable, isAllowed, run, firstRefused}
+use Rattle.star_text.specs.Bytes.{isBlank, isTerminate, isWhite, isPrintable, isAllowed, leading, firstRefused}
 use Rattle.star_lex.specs.Tokens.{dataWord, saveWord}
 use Rattle.star_lex.specs.Split.{after, limited, blockWord, either, wordLexeme, wordFrom, lexeme, moreOf, before, enter, split, tokensBy}
-use Rattle.star_lex.specs.Found.{tokensInBy, tokensFit}
+use Rattle.star_lex.specs.Answer.{tokensInBy, tokensFit}
 use Rattle.star_grammar.specs.Tables.{noRows}
 use Rattle.star_read.specs.Read.{readBy}
 use Rattle.star_read.specs.Known.{fullCase}
@@ -20,7 +20,7 @@ full-listing = ap textOf full-read
 
 -- `data_`: `refused 3 0/`
 pub refused-listing : listingOf (100 ∷ 97 ∷ 116 ∷ 97 ∷ 95 ∷ []) ≡ (114 ∷ 101 ∷ 102 ∷ 117 ∷ 115 ∷ 101 ∷ 100 ∷ 32 ∷ 51 ∷ 32 ∷ 48 ∷ 10 ∷ [])
-unfolding isBlank isTerminate isWhite isPrintable isAllowed run firstRefused dataWord saveWord after limited blockWord either wordLexeme wordFrom lexeme moreOf before enter split tokensBy tokensInBy tokensFit then need readBy digits decimal refusedWord line spaced refusedLine textOf listingOf
+unfolding isBlank isTerminate isWhite isPrintable isAllowed leading firstRefused dataWord saveWord after limited blockWord either wordLexeme wordFrom lexeme moreOf before enter split tokensBy tokensInBy tokensFit then need readBy digits decimal refusedWord line spaced refusedLine textOf listingOf
 refused-listing = refl
 
 -- the empty file: `0 0 0 0 0/`

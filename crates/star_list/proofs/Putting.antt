@@ -6,7 +6,7 @@ use native.Mathlib.Nat.{add-zero}
 use native.Mathlib.Omega.{arith}
 use lib.ListN.{length, take, drop, set, length-append}
 use lib.Seq.{sets, set-out, set-append-seam}
-use Rattle.star_list.specs.Put.{Put}
+use Rattle.star_list.specs.Put.{PutWithin}
 
 sets-append : (vs ws l : List ℕ) (i : ℕ) → sets l i (vs ++ ws) ≡ sets (sets l i vs) (i + length vs) ws
 sets-append [] ws l i = rw add-zero
@@ -14,11 +14,11 @@ sets-append (a ∷ vs) ws l i =
     let k : suc i + length vs ≡ i + suc (length vs) = omega arith in
     sets-append vs ws (set l i a) (suc i) ∙ ap (λ n. sets (sets (set l i a) (suc i) vs) n ws) k
 
-pub put-none : (at : ℕ) (room : List ℕ) → Put [] at room room at
+pub put-none : (at : ℕ) (room : List ℕ) → PutWithin [] at room room at
 put-none at room = record { ends = sym (add-zero at); leaves = refl }
 
-pub put-then : {bytes others before between after : List ℕ} {at next end : ℕ} → Put bytes at before between next → Put others next between after end
-    → Put (bytes ++ others) at before after end
+pub put-then : {bytes others before between after : List ℕ} {at next end : ℕ} → PutWithin bytes at before between next → PutWithin others next between after end
+    → PutWithin (bytes ++ others) at before after end
 put-then {bytes} {others} {before} {at = at} p q = record {
   ends = rw length-append (omega (arith, p .ends, q .ends));
   leaves = q .leaves ∙ rw (p .leaves, p .ends) (sym (sets-append bytes others before at));
@@ -40,6 +40,6 @@ sets-rest (a ∷ vs) p (b ∷ q) =
     ∙ sets-rest vs (p ++ (a ∷ [])) q
     ∙ append-assoc p (a ∷ []) _
 
-pub put-all : {bytes before after : List ℕ} {end : ℕ} → Put bytes 0 before after end
+pub put-all : {bytes before after : List ℕ} {end : ℕ} → PutWithin bytes 0 before after end
     → (end ≡ length bytes) × (after ≡ take (length before) bytes ++ drop (length bytes) before)
 put-all {bytes} {before} p = (omega (arith, p .ends), p .leaves ∙ sets-rest bytes [] before)

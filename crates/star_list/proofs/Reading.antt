@@ -11,16 +11,16 @@ use Rattle.star_lex.specs.Holds.{fileTokens}
 use Rattle.star_read.specs.Read.{Sizes, readOf}
 use Rattle.star_read.specs.Answer.{tables, sizes, readAnswer}
 use Rattle.star_read.specs.Known.{ofWords}
-use Rattle.star_read.specs.declared.Reading.{Reading}
+use Rattle.star_read.specs.declared.Answer.{Answer}
 use Rattle.star_read.proofs.Accepted.{answer-refused, answer-accepted, tokens-file}
 use Rattle.star_list.specs.Listing.{tooLong, line, codeLines, refusedLine, countsLine, textOf, listingOf}
-use Rattle.star_list.specs.Put.{Put}
+use Rattle.star_list.specs.Put.{PutWithin}
 
 -- the line of an answer's counts
-abbrev pub countsOf : Reading → List ℕ
+abbrev pub countsOf : Answer → List ℕ
 countsOf r = countsLine (r .tokens) (r .sets) (r .names) (r .packets) (r .values)
 
-module _ (file : List ℕ) (w : Sizes) (r : Reading) (e : r ≡ readAnswer (readOf file w)) where
+module _ (file : List ℕ) (w : Sizes) (r : Answer) (e : r ≡ readAnswer (readOf file w)) where
   pub text-refused : (r .refusal ≡ 0 → ⊥) → textOf (readOf file w) ≡ refusedLine (r .refusal) (r .place)
   unfolding textOf
   text-refused f = rw (answer-refused (readOf file w) r e f)
@@ -53,6 +53,6 @@ zero-tables : (n : ℕ) → sizes (tables (replicate n 0) (replicate n 0) (repli
 zero-tables n = ap ofWords (length-replicate n 0)
 
 pub put-words : (file : List ℕ) (n : ℕ) {before after : List ℕ} {end : ℕ}
-    → Put (textOf (readOf file (sizes (tables (replicate n 0) (replicate n 0) (replicate n 0) (replicate n 0) (replicate n 0))))) 0 before after end
-    → Put (textOf (readOf file (ofWords n))) 0 before after end
-put-words file n {before} {after} {end} p = subst (λ w. Put (textOf (readOf file w)) 0 before after end) (zero-tables n) p
+    → PutWithin (textOf (readOf file (sizes (tables (replicate n 0) (replicate n 0) (replicate n 0) (replicate n 0) (replicate n 0))))) 0 before after end
+    → PutWithin (textOf (readOf file (ofWords n))) 0 before after end
+put-words file n {before} {after} {end} p = subst (λ w. PutWithin (textOf (readOf file w)) 0 before after end) (zero-tables n) p

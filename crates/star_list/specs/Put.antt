@@ -9,7 +9,7 @@ use lib.Seq.{sets}
 use Rattle.star_list.specs.Listing.{line}
 
 -- these bytes were put at a place, as many as the room takes, and the next place is after them; the others are as they were
-pub record Put (bytes : List ℕ) (at : ℕ) (before after : List ℕ) (next : ℕ) : Type 0 where
+pub record PutWithin (bytes : List ℕ) (at : ℕ) (before after : List ℕ) (next : ℕ) : Type 0 where
   pub ends : next ≡ at + length bytes
   pub leaves : after ≡ sets before at bytes
 

@@ -1,5 +1,5 @@
 // The text that the program prints for an input, made in lent bytes: as much of it as the room takes.
-use star_read::Reading;
+use star_read::Answer;
 ghost use mathlib.Core.Path.{_≡_};
 ghost use mathlib.Core.List.{[], _∷_, _++_};
 ghost use Prim.Native.Nat.{_+_, _≤_};
@@ -9,13 +9,13 @@ ghost use Rattle.star_read.specs.Read.{readOf};
 ghost use Rattle.star_read.specs.Answer.{tables, sizes};
 ghost use Rattle.star_list.specs.Decimal.{decimal};
 ghost use Rattle.star_list.specs.Listing.{codeLines, refusedLine, countsLine, textOf, listingOf};
-ghost use Rattle.star_list.specs.Put.{Put, codeLine};
+ghost use Rattle.star_list.specs.Put.{PutWithin, codeLine};
 
 // Puts a byte at a place, if it is in the room, and answers the next place. The routines below are called by proved layers only, whose places are
 // far below the largest number.
 fn put_byte(out: &mut [u8], at: usize, byte: u8) -> usize
     requires { ⌜ at ≤ 9223372036854775808 ⌝ }
-    ensures { λ r. ⌜ Put (byte ∷ []) at (now (out .entry)) (now (out .exit)) r ⌝ }
+    ensures { λ r. ⌜ PutWithin (byte ∷ []) at (now (out .entry)) (now (out .exit)) r ⌝ }
 {
     if at < out.len() {
         out[at] = byte;
@@ -27,7 +27,7 @@ fn put_byte(out: &mut [u8], at: usize, byte: u8) -> usize
 // Puts these bytes at a place, and answers the place after them.
 fn put_bytes(out: &mut [u8], at: usize, bytes: &[u8]) -> usize
     requires { ⌜ at + length (now bytes) ≤ 9223372036854775808 ⌝ }
-    ensures { λ r. ⌜ Put (now (bytes .entry)) at (now (out .entry)) (now (out .exit)) r ⌝ }
+    ensures { λ r. ⌜ PutWithin (now (bytes .entry)) at (now (out .entry)) (now (out .exit)) r ⌝ }
 {
     let mut next = at;
     let mut i = 0;
@@ -41,7 +41,7 @@ fn put_bytes(out: &mut [u8], at: usize, bytes: &[u8]) -> usize
 // Puts a number's decimal digits.
 fn put_decimal(out: &mut [u8], at: usize, n: u32) -> usize
     requires { ⌜ at + n ≤ 4611686018427387904 ⌝ }
-    ensures { λ r. ⌜ Put (decimal n) at (now (out .entry)) (now (out .exit)) r ⌝ }
+    ensures { λ r. ⌜ PutWithin (decimal n) at (now (out .entry)) (now (out .exit)) r ⌝ }
     ensures { λ r. ⌜ r ≤ at + n + 1 ⌝ }
 {
     if n < 10 {
@@ -54,7 +54,7 @@ fn put_decimal(out: &mut [u8], at: usize, n: u32) -> usize
 // Puts a number and the byte after it.
 fn put_number(out: &mut [u8], at: usize, n: u32, after: u8) -> usize
     requires { ⌜ at + n ≤ 4611686018427387904 ⌝ }
-    ensures { λ r. ⌜ Put (decimal n ++ (after ∷ [])) at (now (out .entry)) (now (out .exit)) r ⌝ }
+    ensures { λ r. ⌜ PutWithin (decimal n ++ (after ∷ [])) at (now (out .entry)) (now (out .exit)) r ⌝ }
     ensures { λ r. ⌜ r ≤ at + n + 2 ⌝ }
 {
     let end = put_decimal(out, at, n);
@@ -63,7 +63,7 @@ fn put_number(out: &mut [u8], at: usize, n: u32, after: u8) -> usize
 
 // Puts a refusal and its place.
 fn put_refused(out: &mut [u8], refusal: u32, place: u32) -> usize
-    ensures { λ r. ⌜ Put (refusedLine refusal place) 0 (now (out .entry)) (now (out .exit)) r ⌝ }
+    ensures { λ r. ⌜ PutWithin (refusedLine refusal place) 0 (now (out .entry)) (now (out .exit)) r ⌝ }
 {
     let word = put_bytes(out, 0, b"refused ");
     let number = put_number(out, word, refusal, b' ');
@@ -73,7 +73,7 @@ fn put_refused(out: &mut [u8], refusal: u32, place: u32) -> usize
 // Puts a token's content on a line of its own, if the token is a block's heading.
 fn put_code(out: &mut [u8], at: usize, kind: u32, content: &[u8]) -> usize
     requires { ⌜ at + length (now content) ≤ 4611686018427387904 ⌝ }
-    ensures { λ r. ⌜ Put (codeLine kind (now (content .entry))) at (now (out .entry)) (now (out .exit)) r ⌝ }
+    ensures { λ r. ⌜ PutWithin (codeLine kind (now (content .entry))) at (now (out .entry)) (now (out .exit)) r ⌝ }
 {
     if kind != 1 {
         return at;
@@ -85,7 +85,7 @@ fn put_code(out: &mut [u8], at: usize, kind: u32, content: &[u8]) -> usize
 // Puts the code of each block, in file order. Table 1 of the file is lent.
 fn put_codes(out: &mut [u8], file: &[u8], tokens: &[u32], count: usize) -> usize
     requires { ⌜ Holds (now file) (now tokens) count ⌝ }
-    ensures { λ r. ⌜ Put (codeLines (fileTokens (now (file .entry)))) 0 (now (out .entry)) (now (out .exit)) r ⌝ }
+    ensures { λ r. ⌜ PutWithin (codeLines (fileTokens (now (file .entry)))) 0 (now (out .entry)) (now (out .exit)) r ⌝ }
     ensures { λ r. ⌜ r ≤ 2305843009213693952 ⌝ }
 {
     let mut at = 0;
@@ -100,9 +100,9 @@ fn put_codes(out: &mut [u8], file: &[u8], tokens: &[u32], count: usize) -> usize
 }
 
 // Puts the number of rows of each table.
-fn put_counts(out: &mut [u8], at: usize, reading: Reading) -> usize
+fn put_counts(out: &mut [u8], at: usize, reading: Answer) -> usize
     requires { ⌜ at ≤ 2305843009213693952 ⌝ }
-    ensures { λ r. ⌜ Put (countsLine (reading .tokens) (reading .sets) (reading .names) (reading .packets) (reading .values))
+    ensures { λ r. ⌜ PutWithin (countsLine (reading .tokens) (reading .sets) (reading .names) (reading .packets) (reading .values))
         at (now (out .entry)) (now (out .exit)) r ⌝ }
 {
     let tokens = put_number(out, at, reading.tokens, b' ');
@@ -122,7 +122,7 @@ fn put_reading(
     packets: &mut [u32],
     values: &mut [u32],
 ) -> usize
-    ensures { λ r. ⌜ Put (textOf (readOf (now (file .entry))
+    ensures { λ r. ⌜ PutWithin (textOf (readOf (now (file .entry))
         (sizes (tables (now (tokens .entry)) (now (sets .entry)) (now (names .entry)) (now (packets .entry)) (now (values .entry))))))
         0 (now (out .entry)) (now (out .exit)) r ⌝ }
 {

@@ -13,7 +13,7 @@ use Rattle.star_lex.specs.Tokens.{Token}
 use Rattle.star_grammar.specs.Tables.{Rows}
 use Rattle.star_grammar.specs.Machine.{Sort, sortOf, State, go, step, endRun, run}
 use Rattle.star_parse.specs.Parsed.{kindTokens}
-use Rattle.star_parse.specs.Reader.{sortNumber, numberOf, ahead, sortAt, SortAt, Ahead, refusalOf}
+use Rattle.star_parse.specs.Reader.{sortNumber, numberOf, ahead, sortAt, SortAt, Ahead, numberFor}
 use Rattle.star_grammar.proofs.Sorts.{OfSort, onward, run-sort}
 use Rattle.star_parse.proofs.RunKinds.{length-kinds, kind-at}
 
@@ -137,18 +137,18 @@ further-on count words from to k h f e = go (eqb from to) refl
     go true q = absurd (f (ap (sortAt count words) (eqb-true from to q) ∙ e))
     go false q = let n : (from ≡ to → ⊥) = eqb-false from to q in omega arith
 
-pub refusal-some : (number sort : ℕ) → 0 < number → 0 < refusalOf number sort
-unfolding refusalOf
+pub refusal-some : (number sort : ℕ) → 0 < number → 0 < numberFor number sort
+unfolding numberFor
 refusal-some number sort h = go (eqb sort 12)
   where
     go : (b : Bool) → 0 < cond b 12 number
     go true = omega arith
     go false = h
 
-pub refusal-global : (number : ℕ) → refusalOf number 12 ≡ 12
-unfolding refusalOf
+pub refusal-global : (number : ℕ) → numberFor number 12 ≡ 12
+unfolding numberFor
 refusal-global number = refl
 
-pub refusal-other : (number sort : ℕ) → (sort ≡ 12 → ⊥) → refusalOf number sort ≡ number
-unfolding refusalOf
+pub refusal-other : (number sort : ℕ) → (sort ≡ 12 → ⊥) → numberFor number sort ≡ number
+unfolding numberFor
 refusal-other number sort h = rw (ne-eqb sort 12 h)

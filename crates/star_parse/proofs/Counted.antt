@@ -8,14 +8,14 @@ use Rattle.star_rows.specs.Rows.{putRow, stored}
 use Rattle.star_rows.proofs.Stored.{stored-more, stored-none}
 use Rattle.star_grammar.specs.Tables.{Rows, noRows, pass, openLoop, putSet, putName, putPacket, putValue, SetRow, NameRow, PacketRow, ValueRow, setWords, nameWords, packetWords, valueWords}
 use Rattle.star_grammar.proofs.Widths.{set-wide, name-wide, packet-wide, value-wide}
-use Rattle.star_parse.specs.Parsed.{FourTables, tables, Stored}
-use Rattle.star_parse.specs.Reader.{Fresh, Moved, Put, Matches}
+use Rattle.star_parse.specs.Parsed.{FourTables, fourTables, Stored}
+use Rattle.star_parse.specs.Reader.{Fresh, Moved, RowPut, Matches}
 use Rattle.star_parse.specs.declared.progress.Progress.{Progress}
 
 -- a row put at the count of the rows before it
-more : {A : Type 0} (width : ℕ) (row : A → List ℕ) → ((x : A) → length (row x) ≡ width) → 0 < width → (xs : List A) (x : A) (n : ℕ) (ws before table after : List ℕ)
+put-stored : {A : Type 0} (width : ℕ) (row : A → List ℕ) → ((x : A) → length (row x) ≡ width) → 0 < width → (xs : List A) (x : A) (n : ℕ) (ws before table after : List ℕ)
     → table ≡ stored width row xs before → n ≡ length xs → ws ≡ row x → after ≡ putRow ws n table → after ≡ stored width row (xs ++ (x ∷ [])) before
-more width row wide some xs x n ws before table after t e w a = a ∙ rw (t, e, w) (sym (stored-more width row wide some xs x before))
+put-stored width row wide some xs x n ws before table after t e w a = a ∙ rw (t, e, w) (sym (stored-more width row wide some xs x before))
 
 -- so many tokens, loops and rows more
 record More (rows rows′ : Rows) (token newLoop newSet newName newPacket newValue : ℕ) : Type 0 where
@@ -59,13 +59,13 @@ module _ (before : FourTables) (rows : Rows) (p r : Progress) (t : FourTables) (
   matches-open v = matched v (omega arith) (same (openLoop rows) refl refl refl refl)
 
   pub matches-set : (kind parent : ℕ) (after : List ℕ)
-      → Put (kind ∷ (p .at + 1) ∷ parent ∷ []) (p .sets) (t .sets) after (Moved p 1 0 1 0 0 0 r)
-      → Matches before (putSet kind parent rows) r (tables after (t .names) (t .packets) (t .values))
+      → RowPut (kind ∷ (p .at + 1) ∷ parent ∷ []) (p .sets) (t .sets) after (Moved p 1 0 1 0 0 0 r)
+      → Matches before (putSet kind parent rows) r (fourTables after (t .names) (t .packets) (t .values))
   unfolding putSet setWords
   matches-set kind parent after q =
       let x : SetRow = record { kind = kind; heading = suc (rows .tokens); parent = parent } in
       matched (q .counted) (omega (arith, length-append (rows .sets) (x ∷ []))) (record {
-        sets = more 3 setWords set-wide (omega arith) (rows .sets) x _ _ _ _ _ (m .tables .sets) (m .sets)
+        sets = put-stored 3 setWords set-wide (omega arith) (rows .sets) x _ _ _ _ _ (m .tables .sets) (m .sets)
             (ap (λ (n : ℕ). kind ∷ n ∷ parent ∷ []) (omega (arith, m .at))) (q .table);
         names = m .tables .names;
         packets = m .tables .packets;
@@ -73,36 +73,36 @@ module _ (before : FourTables) (rows : Rows) (p r : Progress) (t : FourTables) (
       })
 
   pub matches-name : (set loop level : ℕ) (after : List ℕ)
-      → Put (set ∷ (p .at + 1) ∷ loop ∷ level ∷ []) (p .names) (t .names) after (Moved p 1 0 0 1 0 0 r)
-      → Matches before (putName set loop level rows) r (tables (t .sets) after (t .packets) (t .values))
+      → RowPut (set ∷ (p .at + 1) ∷ loop ∷ level ∷ []) (p .names) (t .names) after (Moved p 1 0 0 1 0 0 r)
+      → Matches before (putName set loop level rows) r (fourTables (t .sets) after (t .packets) (t .values))
   unfolding putName nameWords
   matches-name set loop level after q =
       let x : NameRow = record { set = set; name = suc (rows .tokens); loop = loop; level = level } in
       matched (q .counted) (omega (arith, length-append (rows .names) (x ∷ []))) (record {
         sets = m .tables .sets;
-        names = more 4 nameWords name-wide (omega arith) (rows .names) x _ _ _ _ _ (m .tables .names) (m .names)
+        names = put-stored 4 nameWords name-wide (omega arith) (rows .names) x _ _ _ _ _ (m .tables .names) (m .names)
             (ap (λ (n : ℕ). set ∷ n ∷ loop ∷ level ∷ []) (omega (arith, m .at))) (q .table);
         packets = m .tables .packets;
         values = m .tables .values;
       })
 
   pub matches-packet : (level parent : ℕ) (after : List ℕ)
-      → Put (p .loops ∷ level ∷ parent ∷ []) (p .packets) (t .packets) after (Moved p 0 0 0 0 1 0 r)
-      → Matches before (putPacket (rows .loops) level parent rows) r (tables (t .sets) (t .names) after (t .values))
+      → RowPut (p .loops ∷ level ∷ parent ∷ []) (p .packets) (t .packets) after (Moved p 0 0 0 0 1 0 r)
+      → Matches before (putPacket (rows .loops) level parent rows) r (fourTables (t .sets) (t .names) after (t .values))
   unfolding putPacket packetWords
   matches-packet level parent after q =
       let x : PacketRow = record { loop = rows .loops; level = level; parent = parent } in
       matched (q .counted) (omega (arith, length-append (rows .packets) (x ∷ []))) (record {
         sets = m .tables .sets;
         names = m .tables .names;
-        packets = more 3 packetWords packet-wide (omega arith) (rows .packets) x _ _ _ _ _ (m .tables .packets) (m .packets)
+        packets = put-stored 3 packetWords packet-wide (omega arith) (rows .packets) x _ _ _ _ _ (m .tables .packets) (m .packets)
             (ap (λ (n : ℕ). n ∷ level ∷ parent ∷ []) (m .loops)) (q .table);
         values = m .tables .values;
       })
 
   pub matches-value : (name packet : ℕ) (after : List ℕ)
-      → Put (name ∷ packet ∷ (p .at + 1) ∷ []) (p .values) (t .values) after (Moved p 1 0 0 0 0 1 r)
-      → Matches before (putValue name packet rows) r (tables (t .sets) (t .names) (t .packets) after)
+      → RowPut (name ∷ packet ∷ (p .at + 1) ∷ []) (p .values) (t .values) after (Moved p 1 0 0 0 0 1 r)
+      → Matches before (putValue name packet rows) r (fourTables (t .sets) (t .names) (t .packets) after)
   unfolding putValue valueWords
   matches-value name packet after q =
       let x : ValueRow = record { name = name; packet = packet; value = suc (rows .tokens) } in
@@ -110,7 +110,7 @@ module _ (before : FourTables) (rows : Rows) (p r : Progress) (t : FourTables) (
         sets = m .tables .sets;
         names = m .tables .names;
         packets = m .tables .packets;
-        values = more 3 valueWords value-wide (omega arith) (rows .values) x _ _ _ _ _ (m .tables .values) (m .values)
+        values = put-stored 3 valueWords value-wide (omega arith) (rows .values) x _ _ _ _ _ (m .tables .values) (m .values)
             (ap (λ (n : ℕ). name ∷ packet ∷ n ∷ []) (omega (arith, m .at))) (q .table);
       })
 

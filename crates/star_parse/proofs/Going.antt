@@ -10,8 +10,8 @@ use Rattle.star_lex.specs.Rules.{today}
 use Rattle.star_lex.specs.Tokens.{Token}
 use Rattle.star_grammar.specs.Tables.{Rows, pass, openLoop, putSet, putName, putPacket, putValue}
 use Rattle.star_grammar.specs.Machine.{Sort, sortOf, Where, inBlock, inFrame, setOf, Level, parentOf, State, start, within, named, header, body, go, between, filled, fill, valueAt, headerStep, noValue, noValueAt, bodyStep, startStep, namedStep, step, Run, good, endBetween, endRun, run}
-use Rattle.star_parse.specs.Parsed.{FourTables, tables}
-use Rattle.star_parse.specs.Reader.{sortNumber, numberOf, ahead, Moved, Misplaced, Put, Matches, At, Comes, Whole, partly}
+use Rattle.star_parse.specs.Parsed.{FourTables, fourTables}
+use Rattle.star_parse.specs.Reader.{sortNumber, numberOf, ahead, Moved, Misplaced, RowPut, Matches, At, Comes, Whole, partly}
 use Rattle.star_parse.specs.declared.progress.Progress.{Progress}
 use Rattle.star_grammar.proofs.Sorts.{onward, run-alike}
 use Rattle.star_parse.proofs.Ahead.{number-no-global, run-ahead, run-end, drop-next, refusal-some}
@@ -88,8 +88,8 @@ module _ (tokens : List Token) (before : FourTables) (outcome : Run) where
 
   -- the headings of blocks and frames, and `save_`
   pub over-block : {p r : Progress} {t : FourTables} {sets : List ℕ} → At tokens before outcome start p t → ahead (drop (p .at) tokens) ≡ 1
-      → Put (1 ∷ (p .at + 1) ∷ 0 ∷ []) (p .sets) (t .sets) sets (Moved p 1 0 1 0 0 0 r)
-      → At tokens before outcome (within (inBlock (r .sets))) r (tables sets (t .names) (t .packets) (t .values))
+      → RowPut (1 ∷ (p .at + 1) ∷ 0 ∷ []) (p .sets) (t .sets) sets (Moved p 1 0 1 0 0 0 r)
+      → At tokens before outcome (within (inBlock (r .sets))) r (fourTables sets (t .names) (t .packets) (t .values))
   unfolding step startStep sortNumber
   over-block {p} {r} {t} a e q =
       step-on Sort.block (putSet 1 0) a e (q .counted .at)
@@ -97,8 +97,8 @@ module _ (tokens : List Token) (before : FourTables) (outcome : Run) where
       (λ rows m. matches-set before rows p r t m 1 0 _ q)
 
   pub over-frame : {b : ℕ} {p r : Progress} {t : FourTables} {sets : List ℕ} → At tokens before outcome (within (inBlock b)) p t
-      → ahead (drop (p .at) tokens) ≡ 2 → Put (2 ∷ (p .at + 1) ∷ b ∷ []) (p .sets) (t .sets) sets (Moved p 1 0 1 0 0 0 r)
-      → At tokens before outcome (within (inFrame b (r .sets))) r (tables sets (t .names) (t .packets) (t .values))
+      → ahead (drop (p .at) tokens) ≡ 2 → RowPut (2 ∷ (p .at + 1) ∷ b ∷ []) (p .sets) (t .sets) sets (Moved p 1 0 1 0 0 0 r)
+      → At tokens before outcome (within (inFrame b (r .sets))) r (fourTables sets (t .names) (t .packets) (t .values))
   unfolding step between sortNumber
   over-frame {b} {p} {r} {t} a e q =
       step-on Sort.frame (putSet 2 b) a e (q .counted .at)
@@ -113,8 +113,8 @@ module _ (tokens : List Token) (before : FourTables) (outcome : Run) where
 
   -- an item's name and its value
   pub over-name : {w : Where} {set : ℕ} {p r : Progress} {t : FourTables} {names : List ℕ} → At tokens before outcome (within w) p t → setOf w ≡ set
-      → ahead (drop (p .at) tokens) ≡ 6 → Put (set ∷ (p .at + 1) ∷ 0 ∷ 0 ∷ []) (p .names) (t .names) names (Moved p 1 0 0 1 0 0 r)
-      → At tokens before outcome (named w) r (tables (t .sets) names (t .packets) (t .values))
+      → ahead (drop (p .at) tokens) ≡ 6 → RowPut (set ∷ (p .at + 1) ∷ 0 ∷ 0 ∷ []) (p .names) (t .names) names (Moved p 1 0 0 1 0 0 r)
+      → At tokens before outcome (named w) r (fourTables (t .sets) names (t .packets) (t .values))
   unfolding sortNumber
   over-name {w} {set} {p} {r} {t} a s e q =
       step-on Sort.name (putName set 0 0) a e (q .counted .at)
@@ -122,8 +122,8 @@ module _ (tokens : List Token) (before : FourTables) (outcome : Run) where
       (λ rows m. matches-name before rows p r t m set 0 0 _ q)
 
   pub over-item-value : {w : Where} {p r : Progress} {t : FourTables} {values : List ℕ} → At tokens before outcome (named w) p t
-      → ahead (drop (p .at) tokens) ≡ 7 → Put (p .names ∷ 0 ∷ (p .at + 1) ∷ []) (p .values) (t .values) values (Moved p 1 0 0 0 0 1 r)
-      → At tokens before outcome (within w) r (tables (t .sets) (t .names) (t .packets) values)
+      → ahead (drop (p .at) tokens) ≡ 7 → RowPut (p .names ∷ 0 ∷ (p .at + 1) ∷ []) (p .values) (t .values) values (Moved p 1 0 0 0 0 1 r)
+      → At tokens before outcome (within w) r (fourTables (t .sets) (t .names) (t .packets) values)
   unfolding step namedStep sortNumber
   over-item-value {w} {p} {r} {t} a e q =
       step-on Sort.value (putValue (p .names) 0) a e (q .counted .at)
@@ -141,8 +141,8 @@ module _ (tokens : List Token) (before : FourTables) (outcome : Run) where
 
   pub over-level-name : {w : Where} {first set number : ℕ} {outer : List ℕ} {n : ℕ} {p r : Progress} {t : FourTables} {names : List ℕ}
       → At tokens before outcome (header w first outer n 0) p t → setOf w ≡ set → suc (length outer) ≡ number → ahead (drop (p .at) tokens) ≡ 6
-      → Put (set ∷ (p .at + 1) ∷ p .loops ∷ number ∷ []) (p .names) (t .names) names (Moved p 1 0 0 1 0 0 r)
-      → At tokens before outcome (header w first outer (suc n) 0) r (tables (t .sets) names (t .packets) (t .values))
+      → RowPut (set ∷ (p .at + 1) ∷ p .loops ∷ number ∷ []) (p .names) (t .names) names (Moved p 1 0 0 1 0 0 r)
+      → At tokens before outcome (header w first outer (suc n) 0) r (fourTables (t .sets) names (t .packets) (t .values))
   unfolding step headerStep sortNumber
   over-level-name {w} {first} {set} {number} {outer} {n} {p} {r} {t} a s d e q =
       step-on Sort.name (putName set (p .loops) number) a e (q .counted .at)
@@ -177,9 +177,9 @@ module _ (tokens : List Token) (before : FourTables) (outcome : Run) where
   pub over-first : {w : Where} {outer : List Level} {n first k number parent f : ℕ} {inner : List ℕ} {p q r : Progress} {t : FourTables} {packets values : List ℕ}
       → At tokens before outcome (body w outer (level n first k) inner 0) p t → ahead (drop (p .at) tokens) ≡ 7 → suc (length outer) ≡ number
       → parentOf outer ≡ parent → f ≡ 0
-      → Put (p .loops ∷ number ∷ parent ∷ []) (p .packets) (t .packets) packets (Moved p 0 0 0 0 1 0 q)
-      → Put ((first + f) ∷ q .packets ∷ (q .at + 1) ∷ []) (q .values) (t .values) values (Moved q 1 0 0 0 0 1 r)
-      → At tokens before outcome (partly w outer (level n first (q .packets)) inner (f + 1)) r (tables (t .sets) (t .names) packets values)
+      → RowPut (p .loops ∷ number ∷ parent ∷ []) (p .packets) (t .packets) packets (Moved p 0 0 0 0 1 0 q)
+      → RowPut ((first + f) ∷ q .packets ∷ (q .at + 1) ∷ []) (q .values) (t .values) values (Moved q 1 0 0 0 0 1 r)
+      → At tokens before outcome (partly w outer (level n first (q .packets)) inner (f + 1)) r (fourTables (t .sets) (t .names) packets values)
   unfolding step bodyStep valueAt fill sortNumber partly
   over-first {w} {outer} {n} {first} {k} {number} {parent} {f} {inner} {p} {q} {r} {t} a e d u z g h =
       let put : Rows → Rows = λ rows. putPacket (rows .loops) number parent rows in
@@ -191,8 +191,8 @@ module _ (tokens : List Token) (before : FourTables) (outcome : Run) where
   module _ (w : Where) (outer : List Level) (l : Level) (inner : List ℕ) where
     pub over-value : (f : ℕ) {p r : Progress} {t : FourTables} {values : List ℕ} → At tokens before outcome (partly w outer l inner f) p t
         → 0 < f → f < l .names → ahead (drop (p .at) tokens) ≡ 7
-        → Put ((l .first + f) ∷ l .packet ∷ (p .at + 1) ∷ []) (p .values) (t .values) values (Moved p 1 0 0 0 0 1 r)
-        → At tokens before outcome (partly w outer l inner (f + 1)) r (tables (t .sets) (t .names) (t .packets) values)
+        → RowPut ((l .first + f) ∷ l .packet ∷ (p .at + 1) ∷ []) (p .values) (t .values) values (Moved p 1 0 0 0 0 1 r)
+        → At tokens before outcome (partly w outer l inner (f + 1)) r (fourTables (t .sets) (t .names) (t .packets) values)
     unfolding step bodyStep valueAt fill sortNumber partly
     over-value zero a some room e g = absurd (omega arith)
     over-value (suc f) {p} {r} {t} a some room e g =

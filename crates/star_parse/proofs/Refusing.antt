@@ -11,24 +11,24 @@ use Rattle.star_lex.specs.Rules.{today}
 use Rattle.star_lex.specs.Tokens.{Token}
 use Rattle.star_grammar.specs.Tables.{Rows}
 use Rattle.star_grammar.specs.Machine.{Sort, sortOf, Where, inFrame, Level, State, start, within, named, header, body, refuse, between, headerStep, noValue, noValueAt, bodyStep, startStep, namedStep, step, stepAt, bad, endBetween, endBody, endRun, run}
-use Rattle.star_parse.specs.Reader.{sortNumber, numberOf, ahead, refusalOf}
+use Rattle.star_parse.specs.Reader.{sortNumber, numberOf, ahead, numberFor}
 use Rattle.star_grammar.proofs.Sorts.{onward, run-onward}
 use Rattle.star_parse.proofs.Ahead.{number-bounds}
 
 -- a state refuses what is ahead, with this number but for `global_`
 abbrev pub Refuses : State → (number sort : ℕ) → (ts : List Token) → Type 0
-Refuses st number sort ts = (r : Rows) → run today st ts r ≡ bad (refusalOf number sort) (r .tokens)
+Refuses st number sort ts = (r : Rows) → run today st ts r ≡ bad (numberFor number sort) (r .tokens)
 
 -- by sorts, and at the end
 refuses : (st : State) (number : ℕ) (Ahead : ℕ → Type 0)
     → ((k : Sort) (r : Rows) → Ahead (sortNumber k) → step today st k r ≡ refuse number)
     → ((r : Rows) → Ahead 0 → endRun st r ≡ bad number (r .tokens))
     → (ts : List Token) → Ahead (ahead ts) → Refuses st number (ahead ts) ts
-unfolding numberOf ahead run refusalOf
+unfolding numberOf ahead run numberFor
 refuses st number Ahead s e [] h r = e r h
 refuses st number Ahead s e (t ∷ ts) h r = run-onward today st t ts r ∙ ap (onward today ts r) (at (eqb (t .kind) 12) refl)
   where
-    at : (b : Bool) → eqb (t .kind) 12 ≡ b → stepAt today st (t .kind) r ≡ refuse (refusalOf number (numberOf (t .kind)))
+    at : (b : Bool) → eqb (t .kind) 12 ≡ b → stepAt today st (t .kind) r ≡ refuse (numberFor number (numberOf (t .kind)))
     at true d = rw d
     at false d =
         rw (d, ne-eqb (sortNumber (sortOf (t .kind))) 12 (λ q. omega (arith, number-bounds (sortOf (t .kind)) .1)))

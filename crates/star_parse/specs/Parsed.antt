@@ -65,5 +65,5 @@ abbrev pub Answers : (count : ℕ) → Run → (before : FourTables) → Parsed 
 Answers count (bad number place) before r after = Refused number place r
 Answers count (good rows) before r after = Accepted count rows before r after
 
-abbrev pub tables : (sets names packets values : List ℕ) → FourTables
-tables sets names packets values = record { sets = sets; names = names; packets = packets; values = values }
+abbrev pub fourTables : (sets names packets values : List ℕ) → FourTables
+fourTables sets names packets values = record { sets = sets; names = names; packets = packets; values = values }

@@ -54,8 +54,8 @@ pub record NoEntry (count : ℕ) (tokens : List ℕ) (at : ℕ) : Type 0 where
   pub name : sortAt count tokens at ≡ 6 → ⊥
 
 -- `global_` is 12 everywhere
-unfoldable pub refusalOf : (number sort : ℕ) → ℕ
-refusalOf number sort = cond (eqb sort 12) 12 number
+unfoldable pub numberFor : (number sort : ℕ) → ℕ
+numberFor number sort = cond (eqb sort 12) 12 number
 
 -- before the first token
 pub record Fresh (r : Progress) : Type 0 where
@@ -79,7 +79,7 @@ pub record Moved (p : Progress) (token newLoop newSet newName newPacket newValue
 
 -- the same progress but for a refusal at the next token
 pub record Misplaced (p : Progress) (number sort : ℕ) (r : Progress) : Type 0 where
-  pub refusal : r .refusal ≡ refusalOf number sort
+  pub refusal : r .refusal ≡ numberFor number sort
   pub at : r .at ≡ p .at
   pub loops : r .loops ≡ p .loops
   pub sets : r .sets ≡ p .sets
@@ -88,12 +88,12 @@ pub record Misplaced (p : Progress) (number sort : ℕ) (r : Progress) : Type 0 
   pub values : r .values ≡ p .values
 
 -- a row more in a table, as its count says, and the progress that counts it
-pub record Put (row : List ℕ) (count : ℕ) (before after : List ℕ) (Counted : Type 0) : Type 0 where
+pub record RowPut (row : List ℕ) (count : ℕ) (before after : List ℕ) (Counted : Type 0) : Type 0 where
   pub table : after ≡ putRow row count before
   pub counted : Counted
 
 -- a token or a row more can be counted
-pub record Room (p : Progress) : Type 0 where
+pub record CountRoom (p : Progress) : Type 0 where
   pub at : p .at ≤ (mostBytes + 1)
   pub loops : p .loops ≤ (mostBytes + 1)
   pub sets : p .sets ≤ (mostBytes + 1)

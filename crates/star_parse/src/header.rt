@@ -9,7 +9,7 @@ ghost use mathlib.Core.List.{List};
 ghost use Prim.Native.Nat.{ℕ, suc, _+_, _-_, _<_};
 ghost use lib.ListN.{length};
 ghost use Rattle.star_grammar.specs.Machine.{Where, setOf, within, header};
-ghost use Rattle.star_parse.specs.Parsed.{FourTables, tables};
+ghost use Rattle.star_parse.specs.Parsed.{FourTables, fourTables};
 ghost use Rattle.star_parse.specs.Reader.{Ahead, NoEntry, Ready, Onward, Leads, Passes, Names, Stops, InLoop, Outermost, Header};
 
 // The names of a level, up to a token that is none.
@@ -24,8 +24,8 @@ fn read_names(
     requires { ⌜ Ready count (now tokens) p ⌝ }
     ensures { λ r. ⌜ Names count (now (tokens .entry)) p r
         ((w : Where) (first : ℕ) (outer : List ℕ) (sets packets values : List ℕ) → setOf w ≡ set → suc (length outer) ≡ level
-        → Passes count (now (tokens .entry)) (header w first outer 0 0) p (tables sets (now (names .entry)) packets values)
-        (header w first outer (r .names - p .names) 0) r (tables sets (now (names .exit)) packets values)) ⌝ }
+        → Passes count (now (tokens .entry)) (header w first outer 0 0) p (fourTables sets (now (names .entry)) packets values)
+        (header w first outer (r .names - p .names) 0) r (fourTables sets (now (names .exit)) packets values)) ⌝ }
 {
     let mut p = p;
     while progress::sort_at(tokens, count, p.at) == progress::NAME {
@@ -68,8 +68,8 @@ fn read_packets(
     requires { ⌜ Outermost s ⌝ }
     ensures { λ r. ⌜ Onward count (now (tokens .entry)) (p .at) r
         ((w : Where) (outer : List ℕ) (n : ℕ) (sets names : List ℕ) → Header s outer n
-        → Leads count (now (tokens .entry)) (header w (s .first) outer n 0) p (tables sets names (now (packets .entry)) (now (values .entry)))
-        (within w) r (tables sets names (now (packets .exit)) (now (values .exit)))) ⌝ }
+        → Leads count (now (tokens .entry)) (header w (s .first) outer n 0) p (fourTables sets names (now (packets .entry)) (now (values .entry)))
+        (within w) r (fourTables sets names (now (packets .exit)) (now (values .exit)))) ⌝ }
 {
     let p = read_stops(tokens, count, s.levels - 1, p);
     let sort = progress::sort_at(tokens, count, p.at);
@@ -93,8 +93,8 @@ pub(crate) fn read_loop(
     requires { ⌜ Ahead count (now tokens) (p .at) 4 ⌝ }
     ensures { λ r. ⌜ Onward count (now (tokens .entry)) (p .at + 1) r
         ((w : Where) (sets : List ℕ) → setOf w ≡ set
-        → Leads count (now (tokens .entry)) (within w) p (tables sets (now (names .entry)) (now (packets .entry)) (now (values .entry)))
-        (within w) r (tables sets (now (names .exit)) (now (packets .exit)) (now (values .exit)))) ⌝ }
+        → Leads count (now (tokens .entry)) (within w) p (fourTables sets (now (names .entry)) (now (packets .entry)) (now (values .entry)))
+        (within w) r (fourTables sets (now (names .exit)) (now (packets .exit)) (now (values .exit)))) ⌝ }
 {
     let mut p = progress::opened(p);
     let first = p.names + 1;

@@ -13,7 +13,7 @@ ghost use Rattle.star_text.specs.Bytes.{mostBytes};
 ghost use Rattle.star_lex.specs.Rules.{today};
 ghost use Rattle.star_grammar.specs.Tables.{noRows};
 ghost use Rattle.star_grammar.specs.Machine.{Where, inBlock, setOf, start, within, run};
-ghost use Rattle.star_parse.specs.Parsed.{kindTokens, tables, hasRows, rowsRun, Refused, Answers};
+ghost use Rattle.star_parse.specs.Parsed.{kindTokens, fourTables, hasRows, rowsRun, Refused, Answers};
 ghost use Rattle.star_parse.specs.Reader.{Ahead, NoEntry, Ready, Onward, Leads, Whole};
 
 // What reading the rows answers: refusal, 0 when accepted; how many tokens stand before the bad one, or all of them; and the row counts.
@@ -39,8 +39,8 @@ fn read_item(
     requires { ⌜ Ahead count (now tokens) (p .at) 6 ⌝ }
     ensures { λ r. ⌜ Onward count (now (tokens .entry)) (p .at + 1) r
         ((w : Where) (sets packets : List ℕ) → setOf w ≡ set
-        → Leads count (now (tokens .entry)) (within w) p (tables sets (now (names .entry)) packets (now (values .entry)))
-        (within w) r (tables sets (now (names .exit)) packets (now (values .exit)))) ⌝ }
+        → Leads count (now (tokens .entry)) (within w) p (fourTables sets (now (names .entry)) packets (now (values .entry)))
+        (within w) r (fourTables sets (now (names .exit)) packets (now (values .exit)))) ⌝ }
 {
     let p = progress::put_name(p, set, 0, 0, names);
     let sort = progress::sort_at(tokens, count, p.at);
@@ -64,8 +64,8 @@ fn read_entries(
     requires { ⌜ Ready count (now tokens) p ⌝ }
     ensures { λ r. ⌜ Onward count (now (tokens .entry)) (p .at) r
         ((w : Where) (sets : List ℕ) → setOf w ≡ set
-        → Leads count (now (tokens .entry)) (within w) p (tables sets (now (names .entry)) (now (packets .entry)) (now (values .entry)))
-        (within w) r (tables sets (now (names .exit)) (now (packets .exit)) (now (values .exit)))) ⌝ }
+        → Leads count (now (tokens .entry)) (within w) p (fourTables sets (now (names .entry)) (now (packets .entry)) (now (values .entry)))
+        (within w) r (fourTables sets (now (names .exit)) (now (packets .exit)) (now (values .exit)))) ⌝ }
     ensures { λ r. ⌜ (r .refusal ≡ 0 → NoEntry count (now (tokens .entry)) (r .at)) ⌝ }
 {
     let mut p = p;
@@ -97,8 +97,8 @@ fn read_frame(
     requires { ⌜ Ahead count (now tokens) (p .at) 2 ⌝ }
     ensures { λ r. ⌜ Onward count (now (tokens .entry)) (p .at + 1) r
         (Leads count (now (tokens .entry))
-        (within (inBlock block)) p (tables (now (sets .entry)) (now (names .entry)) (now (packets .entry)) (now (values .entry)))
-        (within (inBlock block)) r (tables (now (sets .exit)) (now (names .exit)) (now (packets .exit)) (now (values .exit)))) ⌝ }
+        (within (inBlock block)) p (fourTables (now (sets .entry)) (now (names .entry)) (now (packets .entry)) (now (values .entry)))
+        (within (inBlock block)) r (fourTables (now (sets .exit)) (now (names .exit)) (now (packets .exit)) (now (values .exit)))) ⌝ }
 {
     let p = progress::put_set(p, progress::FRAME, block, sets);
     let p = read_entries(tokens, count, p.sets, p, names, packets, values);
@@ -127,8 +127,8 @@ fn read_block(
     requires { ⌜ Ahead count (now tokens) (p .at) 1 ⌝ }
     ensures { λ r. ⌜ Onward count (now (tokens .entry)) (p .at + 1) r
         (Leads count (now (tokens .entry))
-        start p (tables (now (sets .entry)) (now (names .entry)) (now (packets .entry)) (now (values .entry)))
-        start r (tables (now (sets .exit)) (now (names .exit)) (now (packets .exit)) (now (values .exit)))) ⌝ }
+        start p (fourTables (now (sets .entry)) (now (names .entry)) (now (packets .entry)) (now (values .entry)))
+        start r (fourTables (now (sets .exit)) (now (names .exit)) (now (packets .exit)) (now (values .exit)))) ⌝ }
 {
     let mut p = progress::put_set(p, progress::BLOCK, 0, sets);
     let block = p.sets;
@@ -157,8 +157,8 @@ fn read_blocks(
     requires { ⌜ count * 3 ≤ length (now tokens) ⌝ }
     requires { ⌜ count ≤ mostBytes ⌝ }
     ensures { λ r. ⌜ Whole count (run today start (kindTokens count (now (tokens .entry))) noRows)
-        (tables (now (sets .entry)) (now (names .entry)) (now (packets .entry)) (now (values .entry))) r
-        (tables (now (sets .exit)) (now (names .exit)) (now (packets .exit)) (now (values .exit))) ⌝ }
+        (fourTables (now (sets .entry)) (now (names .entry)) (now (packets .entry)) (now (values .entry))) r
+        (fourTables (now (sets .exit)) (now (names .exit)) (now (packets .exit)) (now (values .exit))) ⌝ }
 {
     let mut p = progress::begin();
     while p.refusal == 0 {
@@ -209,11 +209,11 @@ pub fn read_rows(
     values: &mut [u32],
 ) -> Parsed
     ensures { λ r. ⌜ Answers count (rowsRun count (now (tokens .entry)))
-        (tables (now (sets .entry)) (now (names .entry)) (now (packets .entry)) (now (values .entry))) r
-        (tables (now (sets .exit)) (now (names .exit)) (now (packets .exit)) (now (values .exit))) ⌝ }
+        (fourTables (now (sets .entry)) (now (names .entry)) (now (packets .entry)) (now (values .entry))) r
+        (fourTables (now (sets .exit)) (now (names .exit)) (now (packets .exit)) (now (values .exit))) ⌝ }
     ensures { λ _. ⌜ (hasRows count (length (now (tokens .entry))) ≡ false
-        → tables (now (sets .exit)) (now (names .exit)) (now (packets .exit)) (now (values .exit))
-        ≡ tables (now (sets .entry)) (now (names .entry)) (now (packets .entry)) (now (values .entry))) ⌝ }
+        → fourTables (now (sets .exit)) (now (names .exit)) (now (packets .exit)) (now (values .exit))
+        ≡ fourTables (now (sets .entry)) (now (names .entry)) (now (packets .entry)) (now (values .entry))) ⌝ }
 {
     if !has_rows(count, tokens.len()) {
         return refused(14, 0);

@@ -5,7 +5,7 @@ ghost use mathlib.Core.Path.{_≡_};
 ghost use mathlib.Core.List.{List, _∷_};
 ghost use Prim.Native.Nat.{ℕ, _+_, _<_};
 ghost use Rattle.star_grammar.specs.Machine.{Where, Level, body, filled};
-ghost use Rattle.star_parse.specs.Parsed.{FourTables, tables};
+ghost use Rattle.star_parse.specs.Parsed.{FourTables, fourTables};
 ghost use Rattle.star_parse.specs.Reader.{sortAt, Ahead, Ready, Onward, Leads, InLoop, Around, innerOf, levelOf, deeperOf, atLevel, partly};
 
 // The most levels that a loop may have.
@@ -54,8 +54,8 @@ fn read_values(
     ensures { λ r. ⌜ Onward count (now (tokens .entry)) (p .at) r
         ((w : Where) (outer : List Level) (sets names packets : List ℕ)
         → Leads count (now (tokens .entry))
-        (partly w outer (levelOf s packet) (innerOf s) (s .filled)) p (tables sets names packets (now (values .entry)))
-        (filled w outer (levelOf s packet) (innerOf s)) r (tables sets names packets (now (values .exit)))) ⌝ }
+        (partly w outer (levelOf s packet) (innerOf s) (s .filled)) p (fourTables sets names packets (now (values .entry)))
+        (filled w outer (levelOf s packet) (innerOf s)) r (fourTables sets names packets (now (values .exit)))) ⌝ }
 {
     let mut s = s;
     let mut p = p;
@@ -89,8 +89,8 @@ fn read_own(
     requires { ⌜ s .filled ≡ 0 ⌝ }
     ensures { λ r. ⌜ Onward count (now (tokens .entry)) (p .at + 1) r
         ((w : Where) (outer : List Level) (sets names : List ℕ) → Around s outer
-        → Leads count (now (tokens .entry)) (atLevel w outer s) p (tables sets names (now (packets .entry)) (now (values .entry)))
-        (filled w outer (levelOf s (p .packets + 1)) (innerOf s)) r (tables sets names (now (packets .exit)) (now (values .exit)))) ⌝ }
+        → Leads count (now (tokens .entry)) (atLevel w outer s) p (fourTables sets names (now (packets .entry)) (now (values .entry)))
+        (filled w outer (levelOf s (p .packets + 1)) (innerOf s)) r (fourTables sets names (now (packets .exit)) (now (values .exit)))) ⌝ }
 {
     let p = progress::put_packet(p, (s.level + 1) as u32, s.parent, packets);
     let packet = p.packets;
@@ -131,8 +131,8 @@ fn read_packet(
     requires { ⌜ s .filled ≡ 0 ⌝ }
     ensures { λ r. ⌜ Onward count (now (tokens .entry)) (p .at + 1) r
         ((w : Where) (outer : List Level) (sets names : List ℕ) → Around s outer
-        → Leads count (now (tokens .entry)) (atLevel w outer s) p (tables sets names (now (packets .entry)) (now (values .entry)))
-        (atLevel w outer s) r (tables sets names (now (packets .exit)) (now (values .exit)))) ⌝ }
+        → Leads count (now (tokens .entry)) (atLevel w outer s) p (fourTables sets names (now (packets .entry)) (now (values .entry)))
+        (atLevel w outer s) r (fourTables sets names (now (packets .exit)) (now (values .exit)))) ⌝ }
 {
     let packet = p.packets + 1;
     let p = read_own(tokens, count, s, p, packets, values);
@@ -163,8 +163,8 @@ pub(crate) fn read_level(
     requires { ⌜ s .filled ≡ 0 ⌝ }
     ensures { λ r. ⌜ Onward count (now (tokens .entry)) (p .at) r
         ((w : Where) (outer : List Level) (sets names : List ℕ) → Around s outer
-        → Leads count (now (tokens .entry)) (atLevel w outer s) p (tables sets names (now (packets .entry)) (now (values .entry)))
-        (atLevel w outer s) r (tables sets names (now (packets .exit)) (now (values .exit)))) ⌝ }
+        → Leads count (now (tokens .entry)) (atLevel w outer s) p (fourTables sets names (now (packets .entry)) (now (values .entry)))
+        (atLevel w outer s) r (fourTables sets names (now (packets .exit)) (now (values .exit)))) ⌝ }
     ensures { λ r. ⌜ (r .refusal ≡ 0 → sortAt count (now (tokens .entry)) (r .at) ≡ 7 → ⊥) ⌝ }
 {
     let mut p = p;

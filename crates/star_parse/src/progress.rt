@@ -3,7 +3,7 @@ ghost use mathlib.Core.Path.{_≡_};
 ghost use mathlib.Core.List.{[], _∷_};
 ghost use Prim.Native.Nat.{_+_, _*_, _≤_};
 ghost use lib.ListN.{length};
-ghost use Rattle.star_parse.specs.Reader.{numberOf, SortAt, Fresh, Room, Moved, Misplaced, Put};
+ghost use Rattle.star_parse.specs.Reader.{numberOf, SortAt, Fresh, CountRoom, Moved, Misplaced, RowPut};
 
 // The sorts of tokens: the kind, 7 for every value, and 0 for the end.
 pub const END: u32 = 0;
@@ -103,7 +103,7 @@ pub(crate) fn misplaced(p: Progress, number: u32, sort: u32) -> Progress
 
 // Past a token that makes no row.
 pub(crate) fn passed(p: Progress) -> Progress
-    requires { ⌜ Room p ⌝ }
+    requires { ⌜ CountRoom p ⌝ }
     ensures { λ r. ⌜ Moved p 1 0 0 0 0 0 r ⌝ }
 {
     let mut q = p;
@@ -113,7 +113,7 @@ pub(crate) fn passed(p: Progress) -> Progress
 
 // Past a `loop_` that begins a loop.
 pub(crate) fn opened(p: Progress) -> Progress
-    requires { ⌜ Room p ⌝ }
+    requires { ⌜ CountRoom p ⌝ }
     ensures { λ r. ⌜ Moved p 1 1 0 0 0 0 r ⌝ }
 {
     let mut q = p;
@@ -124,8 +124,8 @@ pub(crate) fn opened(p: Progress) -> Progress
 
 // Past a heading: the row of its set.
 pub(crate) fn put_set(p: Progress, kind: u32, parent: u32, sets: &mut [u32]) -> Progress
-    requires { ⌜ Room p ⌝ }
-    ensures { λ r. ⌜ Put (kind ∷ (p .at + 1) ∷ parent ∷ []) (p .sets) (now (sets .entry)) (now (sets .exit)) (Moved p 1 0 1 0 0 0 r) ⌝ }
+    requires { ⌜ CountRoom p ⌝ }
+    ensures { λ r. ⌜ RowPut (kind ∷ (p .at + 1) ∷ parent ∷ []) (p .sets) (now (sets .entry)) (now (sets .exit)) (Moved p 1 0 1 0 0 0 r) ⌝ }
 {
     let row = p.sets as usize;
     star_rows::put3(sets, row, kind, p.at + 1, parent);
@@ -143,8 +143,8 @@ pub(crate) fn put_name(
     level: u32,
     names: &mut [u32],
 ) -> Progress
-    requires { ⌜ Room p ⌝ }
-    ensures { λ r. ⌜ Put (set ∷ (p .at + 1) ∷ number ∷ level ∷ []) (p .names) (now (names .entry)) (now (names .exit)) (Moved p 1 0 0 1 0 0 r) ⌝ }
+    requires { ⌜ CountRoom p ⌝ }
+    ensures { λ r. ⌜ RowPut (set ∷ (p .at + 1) ∷ number ∷ level ∷ []) (p .names) (now (names .entry)) (now (names .exit)) (Moved p 1 0 0 1 0 0 r) ⌝ }
 {
     let row = p.names as usize;
     star_rows::put4(names, row, set, p.at + 1, number, level);
@@ -156,8 +156,8 @@ pub(crate) fn put_name(
 
 // Before the first value of a packet: the packet's row.
 pub(crate) fn put_packet(p: Progress, level: u32, parent: u32, packets: &mut [u32]) -> Progress
-    requires { ⌜ Room p ⌝ }
-    ensures { λ r. ⌜ Put (p .loops ∷ level ∷ parent ∷ []) (p .packets) (now (packets .entry)) (now (packets .exit)) (Moved p 0 0 0 0 1 0 r) ⌝ }
+    requires { ⌜ CountRoom p ⌝ }
+    ensures { λ r. ⌜ RowPut (p .loops ∷ level ∷ parent ∷ []) (p .packets) (now (packets .entry)) (now (packets .exit)) (Moved p 0 0 0 0 1 0 r) ⌝ }
 {
     let row = p.packets as usize;
     star_rows::put3(packets, row, p.loops, level, parent);
@@ -168,8 +168,8 @@ pub(crate) fn put_packet(p: Progress, level: u32, parent: u32, packets: &mut [u3
 
 // Past a value: its row.
 pub(crate) fn put_value(p: Progress, name: u32, packet: u32, values: &mut [u32]) -> Progress
-    requires { ⌜ Room p ⌝ }
-    ensures { λ r. ⌜ Put (name ∷ packet ∷ (p .at + 1) ∷ []) (p .values) (now (values .entry)) (now (values .exit)) (Moved p 1 0 0 0 0 1 r) ⌝ }
+    requires { ⌜ CountRoom p ⌝ }
+    ensures { λ r. ⌜ RowPut (name ∷ packet ∷ (p .at + 1) ∷ []) (p .values) (now (values .entry)) (now (values .exit)) (Moved p 1 0 0 0 0 1 r) ⌝ }
 {
     let row = p.values as usize;
     star_rows::put3(values, row, name, packet, p.at + 1);

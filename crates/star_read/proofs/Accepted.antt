@@ -4,23 +4,23 @@ use mathlib.Core.List.{List}
 use Prim.Native.Nat.{ℕ}
 use native.Mathlib.Omega.{arith}
 use lib.ListN.{length}
-use Rattle.star_text.specs.Outcome.{refused, accepted, then}
+use Rattle.star_text.specs.Outcome.{refused, accepted}
 use Rattle.star_text.proofs.Outcome.{then-accepted, then-refused, NotZero}
 use Rattle.star_rows.specs.Rows.{holding}
 use Rattle.star_rows.proofs.Held.{length-holding}
 use Rattle.star_lex.specs.Rules.{today}
 use Rattle.star_lex.specs.Tokens.{Placed, tokenRow}
 use Rattle.star_lex.specs.Split.{placed}
-use Rattle.star_lex.specs.Found.{tokensIn, tableOf}
+use Rattle.star_lex.specs.Answer.{tokensIn, tableOf}
 use Rattle.star_lex.proofs.Splitting.{row-wide}
 use Rattle.star_lex.proofs.Answers.{tokens-accepted, in-number, in-fits}
 use Rattle.star_grammar.specs.Tables.{Rows, noRows}
-use Rattle.star_grammar.specs.Machine.{run, start}
+use Rattle.star_grammar.specs.Machine.{start}
 use Rattle.star_lex.specs.Holds.{Holds, fileTokens}
 use Rattle.star_read.specs.Read.{ReadOutcome, Sizes, tokensOnly, grammarOf, readBy, readOf}
 use Rattle.star_lex.proofs.Held.{table-holds}
 use Rattle.star_read.specs.Answer.{readAnswer, Tables, tablesOf, Leaves}
-use Rattle.star_read.specs.declared.Reading.{Reading}
+use Rattle.star_read.specs.declared.Answer.{Answer}
 use Rattle.star_read.proofs.Usable.{today-usable}
 use Rattle.star_read.proofs.Demand3.{rows-of-reading}
 use Rattle.star_read.proofs.Judging.{run-number}
@@ -33,7 +33,7 @@ read-number file w n place e z =
     (λ h. in-number file (w .tokens) n place h z)
     (λ ps h k. judged-number w _ ps _ _ (run-number today start (tokensOnly ps) noRows) n place k z)
 
-pub answer-refused : (o : ReadOutcome) (r : Reading) → r ≡ readAnswer o → (r .refusal ≡ 0 → ⊥) → o ≡ refused (r .refusal) (r .place)
+pub answer-refused : (o : ReadOutcome) (r : Answer) → r ≡ readAnswer o → (r .refusal ≡ 0 → ⊥) → o ≡ refused (r .refusal) (r .place)
 unfolding readAnswer
 answer-refused (refused n place) r e f =
     let a : r .refusal ≡ n = ap (λ t. t .refusal) e in
@@ -41,7 +41,7 @@ answer-refused (refused n place) r e f =
     cc
 answer-refused (accepted (ps, rows)) r e f = absurd (f (ap (λ t. t .refusal) e))
 
-pub answer-accepted : (file : List ℕ) (w : Sizes) (r : Reading) → r ≡ readAnswer (readOf file w) → r .refusal ≡ 0
+pub answer-accepted : (file : List ℕ) (w : Sizes) (r : Answer) → r ≡ readAnswer (readOf file w) → r .refusal ≡ 0
     → (ps : List Placed) × (rows : Rows) × (readOf file w ≡ accepted (ps, rows))
 unfolding readAnswer
 answer-accepted file w r e z = go (readOf file w) refl e
@@ -77,7 +77,7 @@ module _ (file : List ℕ) (w : Sizes) (ps : List Placed) (rows : Rows) (e : rea
       let table : t .tokens ≡ holding tokenRow ps (w .tokens) = l .tokens ∙ ap (λ o. tablesOf o w .tokens) e in
       rw (table, c) accepted-holds
 
-pub read-holds : (file : List ℕ) (w : Sizes) (r : Reading) → r ≡ readAnswer (readOf file w) → (t : Tables) → Leaves (readOf file w) w t → r .refusal ≡ 0
+pub read-holds : (file : List ℕ) (w : Sizes) (r : Answer) → r ≡ readAnswer (readOf file w) → (t : Tables) → Leaves (readOf file w) w t → r .refusal ≡ 0
     → Holds file (t .tokens) (r .tokens)
 unfolding readAnswer
 read-holds file w r e t l z =

@@ -7,19 +7,19 @@ use native.Mathlib.Omega.{arith}
 use lib.ListN.{length}
 use Rattle.star_text.specs.Outcome.{accepted}
 use Rattle.star_text.specs.Bytes.{mostBytes}
-use Rattle.star_lex.specs.Rules.{Rules, today}
+use Rattle.star_lex.specs.Rules.{Rules}
 use Rattle.star_text.specs.Names.{key}
 use Rattle.star_lex.specs.Tokens.{Token, Placed, Each}
 use Rattle.star_lex.specs.Split.{tokensBy}
 use Rattle.star_lex.specs.Plain.{plainOf}
-use Rattle.star_lex.specs.WellFormed.{FormedBy}
+use Rattle.star_lex.proofs.Formed.{FormedBy}
 use Rattle.star_lex.proofs.Each.{each-append}
 use Rattle.star_lex.proofs.FreshName.{fresh-name-of}
 use Rattle.star_lex.proofs.PlainSplit.{lex-plain-by}
 use Rattle.star_grammar.specs.Tree.{File, fileYield, FileBy}
 use Rattle.star_grammar.specs.Tables.{Rows, noRows}
 use Rattle.star_grammar.specs.Machine.{State, start, within, named, header, body, go, walk, good, run}
-use Rattle.star_grammar.specs.Rest.{zeroWord, ending, completion}
+use Rattle.star_grammar.proofs.Rest.{zeroWord, ending, completion}
 use Rattle.star_grammar.proofs.Alive.{rest-alive, each-ending}
 use Rattle.star_grammar.proofs.Formed.{each-fixed, formed-completion}
 use Rattle.star_grammar.proofs.Walking.{Walks, walks-first, good-walks}

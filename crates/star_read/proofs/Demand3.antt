@@ -12,7 +12,7 @@ use Rattle.star_text.proofs.Outcome.{refused≢accepted, accepted-same, then-ac
 use Rattle.star_lex.specs.Rules.{Rules}
 use Rattle.star_lex.specs.Tokens.{Placed}
 use Rattle.star_lex.specs.Split.{tokensBy}
-use Rattle.star_lex.specs.Found.{tokensInBy}
+use Rattle.star_lex.specs.Answer.{tokensInBy}
 use Rattle.star_lex.proofs.Cases.{impossible}
 use Rattle.star_lex.proofs.WellFormed.{well-formed-by}
 use Rattle.star_lex.proofs.Answers.{in-fits}

@@ -6,12 +6,11 @@ use mathlib.Core.List.{List, [], _∷_, _++_, map-append}
 use Prim.Native.Nat.{ℕ, _≤_}
 use native.Mathlib.Omega.{arith}
 use lib.ListN.{length, length-append, length-map}
-use Rattle.star_text.specs.Outcome.{accepted, then}
+use Rattle.star_text.specs.Outcome.{accepted}
 use Rattle.star_text.specs.Bytes.{mostBytes}
-use Rattle.star_lex.specs.Rules.{today}
 use Rattle.star_lex.specs.Rules.{Rules}
 use Rattle.star_lex.specs.Tokens.{Placed, Each}
-use Rattle.star_lex.specs.WellFormed.{FormedBy}
+use Rattle.star_lex.proofs.Formed.{FormedBy}
 use Rattle.star_lex.proofs.Each.{each-append}
 use Rattle.star_lex.proofs.Parts.{count-by}
 use Rattle.star_lex.proofs.WellFormed.{well-formed-by}
@@ -20,7 +19,7 @@ use Rattle.star_grammar.specs.Reading.{ReadingBy}
 use Rattle.star_grammar.specs.Machine.{State, start, go, refuse, stepAt, good, run, walk}
 use Rattle.star_grammar.proofs.Walking.{Walks, halted}
 use Rattle.star_unique.specs.Repeat.{nothing, isTaken}
-use Rattle.star_unique.specs.Seen.{takesAll}
+use Rattle.star_unique.proofs.Seen.{takesAll}
 use Rattle.star_unique.proofs.Clean.{Clean}
 use Rattle.star_unique.proofs.First.{taken-unclean}
 use Rattle.star_read.specs.Read.{Sizes, tokensOnly, rowsFit}

@@ -8,14 +8,14 @@ use lib.Seq.{append-snoc}
 use Rattle.star_text.specs.Outcome.{refused}
 use Rattle.star_lex.specs.Rules.{Rules}
 use Rattle.star_lex.specs.Tokens.{Placed, Each}
-use Rattle.star_lex.specs.WellFormed.{FormedBy}
+use Rattle.star_lex.proofs.Formed.{FormedBy}
 use Rattle.star_lex.proofs.Cases.{impossible}
 use Rattle.star_lex.proofs.Each.{each-append}
 use Rattle.star_grammar.specs.Machine.{start}
 use Rattle.star_grammar.specs.Tables.{noRows}
 use Rattle.star_grammar.proofs.Walking.{walks-first}
 use Rattle.star_unique.specs.Repeat.{nothing}
-use Rattle.star_unique.specs.Seen.{takesAll}
+use Rattle.star_unique.proofs.Seen.{takesAll}
 use Rattle.star_read.specs.Read.{ReadOutcome, Sizes, tokensOnly}
 use Rattle.star_read.specs.Demands.{Usable, Begins, Tokenized, NumberAt, Bad}
 use Rattle.star_read.proofs.Begin.{begins-first, walks-shape}

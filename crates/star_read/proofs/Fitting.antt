@@ -11,7 +11,7 @@ use Rattle.star_rows.specs.Widths.{tokenWidth}
 use Rattle.star_text.specs.Bytes.{mostBytes}
 use Rattle.star_lex.specs.Rules.{Rules}
 use Rattle.star_lex.specs.Tokens.{Placed}
-use Rattle.star_lex.specs.Found.{tokensInBy, tokensFit}
+use Rattle.star_lex.specs.Answer.{tokensInBy, tokensFit}
 use Rattle.star_grammar.specs.Tables.{Rows}
 use Rattle.star_read.specs.Read.{FileRows, ReadOutcome, Sizes, grammarOf, roomFor, rowsFit, readBy}
 use Rattle.star_read.specs.Demands.{Room, Tokenized}

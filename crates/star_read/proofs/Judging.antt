@@ -1,6 +1,6 @@
 -- What the numbers of a run and of a table tell: the place of a token from its row, and which of the checks of the grammar and of the room
 -- decides.
-use mathlib.Core.Path.{_≡_, refl, sym, _∙_, ap}
+use mathlib.Core.Path.{_≡_, refl, sym, _∙_}
 use mathlib.Core.Bool.{Bool, true, false}
 use mathlib.Core.List.{List, [], _∷_}
 use Prim.Native.Nat.{ℕ, zero, suc, _≤_, _<_}
@@ -10,9 +10,8 @@ use lib.ListN.{length, getD}
 use Rattle.star_text.specs.Outcome.{Outcome, accepted, then, need, refusalOf, placeOf}
 use Rattle.star_rows.specs.Widths.{setWidth, nameWidth, packetWidth, valueWidth}
 use Rattle.star_rows.specs.Rows.{hasRoom}
-use Rattle.star_rows.proofs.Held.{held-word}
 use Rattle.star_lex.specs.Rules.{Rules}
-use Rattle.star_lex.specs.Tokens.{Token, Placed, opening, tokenRow}
+use Rattle.star_lex.specs.Tokens.{Token, Placed}
 use Rattle.star_lex.specs.Split.{placed, tokensOf}
 use Rattle.star_grammar.specs.Tables.{Rows}
 use Rattle.star_grammar.specs.Machine.{State, Run, bad, good, run}

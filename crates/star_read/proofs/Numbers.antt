@@ -7,7 +7,7 @@ use Prim.Native.Nat.{ℕ, _+_, _≤_}
 use native.Mathlib.Omega.{arith}
 use Rattle.star_lex.specs.Rules.{Rules, atLevels}
 use Rattle.star_lex.specs.Tokens.{Token, Each}
-use Rattle.star_lex.specs.WellFormed.{FormedBy}
+use Rattle.star_lex.proofs.Formed.{FormedBy}
 use Rattle.star_lex.proofs.Cases.{impossible}
 use Rattle.star_lex.proofs.Each.{each-append, each-implies}
 use Rattle.star_lex.proofs.WellFormed.{formed-levels}

@@ -5,14 +5,13 @@ use mathlib.Core.List.{List}
 use Prim.Native.Nat.{_≤_}
 use Rattle.star_lex.specs.Rules.{Rules}
 use Rattle.star_lex.specs.Tokens.{Token, Each}
-use Rattle.star_lex.specs.WellFormed.{FormedBy}
+use Rattle.star_lex.proofs.Formed.{FormedBy}
 use Rattle.star_grammar.specs.Tree.{File, fileYield, FileBy}
 use Rattle.star_grammar.specs.Tables.{Rows, noRows, rowsOf}
 use Rattle.star_grammar.specs.Reading.{ReadingBy}
 use Rattle.star_grammar.specs.Machine.{start, good, run}
 use Rattle.star_grammar.proofs.Complete.{complete}
 use Rattle.star_grammar.proofs.Sound.{rows-of-run}
-use Rattle.star_grammar.proofs.Limits.{file-today}
 use Rattle.star_grammar.proofs.Formed.{each-fixed}
 use Rattle.star_unique.specs.Repeat.{nothing}
 use Rattle.star_unique.proofs.Clean.{Clean, clean-repeat, repeat-clean}
@@ -28,7 +27,7 @@ module _ (rules : Rules) where
   pub reading-clean : (ts : List Token) → ReadingBy rules ts → Clean nothing ts
   reading-clean ts r =
       rw (r .yield) at (repeat-clean nothing (fileYield (r .tree))
-      (repeat-distinct (rules .levels) (r .tree) (file-today rules (r .tree) (r .whole)) .0 (r .distinct)))
+      (repeat-distinct rules (r .tree) (r .whole) .0 (r .distinct)))
 
   -- a whole tree of tokens that repeat nothing
   pub tree-reading : (ts : List Token) (f : File) → fileYield f ≡ ts → FileBy rules f → Clean nothing ts → ReadingBy rules ts
@@ -36,7 +35,7 @@ module _ (rules : Rules) where
     tree = f;
     yield = e;
     whole = w;
-    distinct = repeat-distinct (rules .levels) f (file-today rules f w) .1 (clean-repeat nothing (fileYield f) (rw e c));
+    distinct = repeat-distinct rules f w .1 (clean-repeat nothing (fileYield f) (rw e c));
   }
 
   pub run-reading : 1 ≤ rules .levels → (ts : List Token) (rows : Rows) → Each (FormedBy rules) ts → run rules start ts noRows ≡ good rows

@@ -15,7 +15,7 @@ use Rattle.star_text.specs.Bytes.{mostBytes}
 use Rattle.star_lex.specs.Rules.{Rules}
 use Rattle.star_lex.specs.Tokens.{Placed}
 use Rattle.star_lex.specs.Split.{Split, tokensBy}
-use Rattle.star_lex.specs.Found.{tokensInBy, tokensFit}
+use Rattle.star_lex.specs.Answer.{tokensInBy, tokensFit}
 use Rattle.star_grammar.specs.Tables.{Rows, rowsOf}
 use Rattle.star_grammar.specs.Reading.{ReadingBy}
 use Rattle.star_read.specs.Read.{ReadOutcome, Sizes, tokensOnly, grammarOf, roomFor, rowsFit, readBy}

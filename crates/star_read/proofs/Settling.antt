@@ -26,7 +26,7 @@ use Rattle.star_lex.proofs.Held.{count-small}
 use Rattle.star_read.specs.Read.{ReadOutcome, FileRows, Sizes, decide, roomFor, rowsFit, grammarOf}
 use Rattle.star_read.specs.Demands.{Room}
 use Rattle.star_read.specs.Answer.{readAnswer, tables, tablesOf, judgedOf, words, Ran, ClearedBehind, Leaves, Tables}
-use Rattle.star_read.specs.declared.Reading.{Reading}
+use Rattle.star_read.specs.declared.Answer.{Answer}
 use Rattle.star_read.specs.declared.Judged.{Judged}
 use Rattle.star_read.proofs.Fitting.{rows-room}
 use Rattle.star_read.proofs.Judging.{run-number}
@@ -167,7 +167,7 @@ leaves-refused table before mid k o n place e {t} l =
     (subst (λ w. Leaves (refused n place) w t) (same-words (length table) before mid k) l)
 
 -- the answer of an accepted file by its counts
-abbrev pub countedBy : ℕ → Parsed → Reading
+abbrev pub countedBy : ℕ → Parsed → Answer
 countedBy count r = record {
   refusal = 0;
   place = 0;

@@ -9,7 +9,7 @@ use Rattle.star_lex.specs.Tokens.{Token, Each}
 use Rattle.star_lex.proofs.Cases.{impossible}
 use Rattle.star_lex.proofs.Each.{each-append}
 use Rattle.star_grammar.specs.Machine.{Sort, sortOf}
-use Rattle.star_grammar.specs.Rest.{Fixed}
+use Rattle.star_grammar.proofs.Rest.{Fixed}
 use Rattle.star_grammar.proofs.Sorts.{KindOf, sort-kind, sort-value}
 use Rattle.star_grammar.proofs.Marks.{mark, marks}
 use Rattle.star_read.specs.Demands.{ValueSince}

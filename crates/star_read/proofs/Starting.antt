@@ -6,7 +6,7 @@ use Rattle.star_text.specs.Outcome.{refused, accepted, then}
 use Rattle.star_lex.specs.Rules.{today}
 use Rattle.star_lex.specs.Tokens.{Placed}
 use Rattle.star_lex.specs.Split.{tokensOf, placed}
-use Rattle.star_lex.specs.Found.{tokensIn}
+use Rattle.star_lex.specs.Answer.{tokensIn}
 use Rattle.star_lex.proofs.Answers.{tokens-accepted}
 use Rattle.star_unique.specs.Compared.{comparedOf}
 use Rattle.star_unique.specs.declared.Compared.{Compared}

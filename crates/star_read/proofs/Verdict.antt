@@ -18,7 +18,7 @@ use Rattle.star_grammar.specs.Machine.{State, start, go, refuse, stepAt, Run, b
 use Rattle.star_grammar.proofs.Passing.{walk-length, end-passes}
 use Rattle.star_grammar.proofs.Walking.{Walks, walks-first, good-walks, Halts, bad-halts}
 use Rattle.star_unique.specs.Repeat.{nothing, isTaken, firstRepeat}
-use Rattle.star_unique.specs.Seen.{takesAll}
+use Rattle.star_unique.proofs.Seen.{takesAll}
 use Rattle.star_unique.proofs.Clean.{Clean, repeat-after, unclean-repeat, repeat-before}
 use Rattle.star_unique.proofs.First.{FirstTaken, first-taken, clean-before}
 use Rattle.star_read.specs.Read.{ReadOutcome, tokensOnly, tokenPlace, decide, grammarOf}

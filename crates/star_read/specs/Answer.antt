@@ -12,11 +12,11 @@ use Rattle.star_read.specs.Read.{FileRows, ReadOutcome, Sizes, readOf}
 use Rattle.star_grammar.specs.Machine.{Run, bad, good}
 use Rattle.star_parse.specs.Parsed.{FourTables}
 use Rattle.star_parse.specs.declared.Parsed.{Parsed}
-use Rattle.star_read.specs.declared.Reading.{Reading}
+use Rattle.star_read.specs.declared.Answer.{Answer}
 use Rattle.star_read.specs.declared.Judged.{Judged}
 
 -- refusal and place, both 0 when accepted, and the five row counts
-unfoldable pub readAnswer : ReadOutcome → Reading
+unfoldable pub readAnswer : ReadOutcome → Answer
 readAnswer (refused n place) = record { refusal = n; place = place; tokens = 0; sets = 0; names = 0; packets = 0; values = 0 }
 readAnswer (accepted (ps, rows)) = record {
   refusal = 0;
@@ -97,12 +97,12 @@ pub record Leaves (o : ReadOutcome) (words : Sizes) (t : Tables) : Type 0 where
   pub values : t .values ≡ tablesOf o words .values
 
 -- the answer and the tables are an outcome's
-pub record Gives (o : ReadOutcome) (before after : Tables) (r : Reading) : Type 0 where
+pub record Gives (o : ReadOutcome) (before after : Tables) (r : Answer) : Type 0 where
   pub answer : r ≡ readAnswer o
   pub leaves : Leaves o (sizes before) after
 
 -- the contract of reading: the answer, and every word of the five tables
-abbrev pub Reads : (file : List ℕ) (before after : Tables) → Reading → Type 0
+abbrev pub Reads : (file : List ℕ) (before after : Tables) → Answer → Type 0
 Reads file before after r = Gives (readOf file (sizes before)) before after r
 
 -- tables 2 to 5 are 0 behind their rows, and as they were before

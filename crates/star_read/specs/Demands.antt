@@ -7,7 +7,6 @@ use lib.ListN.{length}
 use Rattle.star_text.specs.Outcome.{refused, accepted}
 use Rattle.star_rows.specs.Widths.{tokenWidth, setWidth, nameWidth, packetWidth, valueWidth}
 use Rattle.star_text.specs.Bytes.{mostBytes}
-use Rattle.star_lex.specs.Rules.{Rules, today, atLevels}
 use Rattle.star_lex.specs.Rules.{Rules, atLevels}
 use Rattle.star_lex.specs.Tokens.{Token, Placed, Each}
 use Rattle.star_lex.specs.Split.{tokensBy, tokensOf}
@@ -15,7 +14,7 @@ use Rattle.star_grammar.specs.Tree.{File, fileYield, FileBy, IsName, IsValue}
 use Rattle.star_grammar.specs.Tables.{Rows, rowsOf}
 use Rattle.star_grammar.specs.Reading.{ReadingBy, Reading}
 use Rattle.star_read.specs.Answer.{readAnswer, Tables, zeroTables, tablesOf}
-use Rattle.star_read.specs.declared.Reading as Answer
+use Rattle.star_read.specs.declared.Answer.{Answer}
 use Rattle.star_read.specs.Read.{ReadOutcome, Sizes, tokensOnly, readOf, readBy}
 
 -- rules by which every file that is begun can be completed: loops have a level, and names may be so long that a file within the size limit has not
@@ -186,8 +185,8 @@ pub record HasReading (file : List ℕ) : Type 0 where
   pub reading : Reading (tokensOnly tokens)
 
 -- demand 1, of reading: its answer is 0 and 0 only with a reading; else one of the numbers with its place, no rows, and every word 0
-pub data ReadAnswer (file : List ℕ) (words : Sizes) : Answer.Reading → Tables → Type 0 where
-  acceptance : (r : Answer.Reading) (t : Tables) → r .refusal ≡ 0 → r .place ≡ 0 → HasReading file → ReadAnswer file words r t
+pub data ReadAnswer (file : List ℕ) (words : Sizes) : Answer → Tables → Type 0 where
+  acceptance : (r : Answer) (t : Tables) → r .refusal ≡ 0 → r .place ≡ 0 → HasReading file → ReadAnswer file words r t
   refusal : (n place : ℕ) → Numbered (length file) n place
       → ReadAnswer file words (record { refusal = n; place = place; tokens = 0; sets = 0; names = 0; packets = 0; values = 0 }) (zeroTables words)
 

@@ -10,7 +10,7 @@ use Rattle.star_rows.specs.Rows.{hasRoom}
 use Rattle.star_rows.specs.Widths.{setWidth, nameWidth, packetWidth, valueWidth}
 use Rattle.star_lex.specs.Rules.{Rules, today}
 use Rattle.star_lex.specs.Tokens.{Token, Placed}
-use Rattle.star_lex.specs.Found.{tokensInBy}
+use Rattle.star_lex.specs.Answer.{tokensInBy}
 use Rattle.star_grammar.specs.Tables.{Rows, noRows}
 use Rattle.star_grammar.specs.Machine.{Run, bad, good, run, start}
 use Rattle.star_unique.specs.Repeat.{nothing, firstRepeat}

@@ -11,12 +11,12 @@ ghost use Rattle.star_unique.specs.Repeat.{nothing, firstRepeat};
 ghost use Rattle.star_text.specs.Outcome.{refused, accepted, then};
 ghost use Rattle.star_read.specs.Read.{tokenPlace, roomFor, rowsFit, grammarOf};
 ghost use Rattle.star_read.specs.Answer.{tables, sizes, judgedOf, words, Ran, Leaves, Gives, Reads, ClearedBehind};
-ghost use Rattle.star_parse.specs.Parsed.{tables as four};
+ghost use Rattle.star_parse.specs.Parsed.{fourTables as four};
 use star_parse::Parsed;
 
 // What reading answers: refusal and place, both 0 when accepted, and the number of rows of each table.
 #[repr(C)]
-pub struct Reading {
+pub struct Answer {
     pub refusal: u32,
     pub place: u32,
     pub tokens: u32,
@@ -140,13 +140,13 @@ fn refuse(
     values: &mut [u32],
     refusal: u32,
     place: u32,
-) -> Reading
+) -> Answer
     ensures { λ r. ⌜ Gives (refused refusal place)
         (tables (now (tokens .entry)) (now (sets .entry)) (now (names .entry)) (now (packets .entry)) (now (values .entry)))
         (tables (now (tokens .exit)) (now (sets .exit)) (now (names .exit)) (now (packets .exit)) (now (values .exit))) r ⌝ }
 {
     clear_tables(tokens, sets, names, packets, values);
-    Reading {
+    Answer {
         refusal,
         place,
         tokens: 0,
@@ -190,7 +190,7 @@ fn read_tables(
     values: &mut [u32],
     count: u32,
     taken: usize,
-) -> Reading
+) -> Answer
     requires { ⌜ Holds (now file) (now tokens) count ⌝ }
     requires { ⌜ taken ≡ firstRepeat nothing (fileTokens (now file)) ⌝ }
     ensures { λ r. ⌜ Gives (then (grammarOf today (length (now (file .entry))) (placed (tokensOf (now (file .entry)))))
@@ -223,7 +223,7 @@ fn read_tables(
         );
     }
     clear_behind(sets, names, packets, values, rows);
-    Reading {
+    Answer {
         refusal: 0,
         place: 0,
         tokens: count,
@@ -242,7 +242,7 @@ pub fn read(
     names: &mut [u32],
     packets: &mut [u32],
     values: &mut [u32],
-) -> Reading
+) -> Answer
     ensures { λ r. ⌜ Reads (now (file .entry))
         (tables (now (tokens .entry)) (now (sets .entry)) (now (names .entry)) (now (packets .entry)) (now (values .entry)))
         (tables (now (tokens .exit)) (now (sets .exit)) (now (names .exit)) (now (packets .exit)) (now (values .exit))) r ⌝ }

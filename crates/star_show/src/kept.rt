@@ -4,7 +4,7 @@ use crate::print;
 use crate::table;
 use crate::table::FILLED;
 use crate::words;
-use star_read::Reading;
+use star_read::Answer;
 ghost use mathlib.Core.Path.{_≡_};
 ghost use lib.ListN.{length};
 
@@ -54,7 +54,7 @@ fn print_tables(kept: &[u32], between: &[u8]) {
 }
 
 // Prints refusal and place, and of an accepted file the counts and the rows of the five tables; of a refused one any count or word that is not 0.
-pub fn print_answer(answer: Reading, kept: &[u32]) {
+pub fn print_answer(answer: Answer, kept: &[u32]) {
     print::two(answer.refusal, answer.place);
     if answer.refusal == 0 {
         print::bar();
@@ -74,7 +74,7 @@ fn lend<'a, 'b>(table: &'a mut [u32], kept: &'b [u32], t: u32) -> &'a mut [u32] 
 }
 
 // Keeps the five counts.
-fn keep_counts(kept: &mut [u32], answer: Reading) {
+fn keep_counts(kept: &mut [u32], answer: Answer) {
     let counts = [
         answer.tokens,
         answer.sets,
@@ -102,7 +102,7 @@ fn keep_tables(
 }
 
 // Reads a file into tables of as many words as are lent, none of them 0 before, and keeps what is left.
-pub fn read(file: &[u8], kept: &mut [u32]) -> Reading {
+pub fn read(file: &[u8], kept: &mut [u32]) -> Answer {
     let mut tokens = [FILLED; 1024];
     let mut sets = [FILLED; 1024];
     let mut names = [FILLED; 1024];

@@ -1,4 +1,4 @@
--- Laws of the byte classes and of `all` and `run`: the classes compare a byte with numbers, so they follow by arithmetic; the others by
+-- Laws of the byte classes and of `all` and `leading`: the classes compare a byte with numbers, so they follow by arithmetic; the others by
 -- induction on the list.
 use mathlib.Core.Path.{_≡_, refl, sym, _∙_, ap}
 use mathlib.Core.Bool.{Bool, true, false, cond, not, _&&_, and-eq-true-iff, and-assoc, true≢false}
@@ -10,7 +10,7 @@ use native.Mathlib.Omega.{arith}
 use borrow.Author.Tests.{leb-true, eqb-true, eqb-false, le-leb, lt-leb, ne-eqb, eq-eqb}
 use lib.Dec.{eqb, leb}
 use lib.ListN.{length, drop}
-use Rattle.star_text.specs.Bytes.{isBlank, isTerminate, isWhite, isPrintable, isAllowed, all, run}
+use Rattle.star_text.specs.Bytes.{isBlank, isTerminate, isWhite, isPrintable, isAllowed, all, leading}
 
 pub eqb-comm : (a b : ℕ) → eqb a b ≡ eqb b a
 eqb-comm a b = go (eqb a b) refl
@@ -81,43 +81,43 @@ module _ (p : ℕ → Bool) where
   all-implies q f [] e = refl
   all-implies q f (x ∷ xs) e = rw (f x (all-head x xs e), all-implies q f xs (all-tail x xs e))
 
-  pub run-append : (xs : List ℕ) (b : ℕ) (ys : List ℕ) → all p xs ≡ true → p b ≡ false → run p (xs ++ b ∷ ys) ≡ xs
-  unfolding all run
+  pub run-append : (xs : List ℕ) (b : ℕ) (ys : List ℕ) → all p xs ≡ true → p b ≡ false → leading p (xs ++ b ∷ ys) ≡ xs
+  unfolding all leading
   run-append [] b ys e f = rw f
   run-append (x ∷ xs) b ys e f = rw (all-head x xs e, run-append xs b ys (all-tail x xs e) f)
 
-  pub run-all : (xs : List ℕ) → all p xs ≡ true → run p xs ≡ xs
-  unfolding all run
+  pub run-all : (xs : List ℕ) → all p xs ≡ true → leading p xs ≡ xs
+  unfolding all leading
   run-all [] e = refl
   run-all (x ∷ xs) e = rw (all-head x xs e, run-all xs (all-tail x xs e))
 
-  pub run-append-drop : (xs : List ℕ) → xs ≡ run p xs ++ drop (length (run p xs)) xs
-  unfolding run
+  pub run-append-drop : (xs : List ℕ) → xs ≡ leading p xs ++ drop (length (leading p xs)) xs
+  unfolding leading
   run-append-drop [] = refl
   run-append-drop (x ∷ xs) = go (p x) (run-append-drop xs)
     where
-      go : (t : Bool) → xs ≡ run p xs ++ drop (length (run p xs)) xs
-          → x ∷ xs ≡ cond t (x ∷ run p xs) [] ++ drop (length (cond t (x ∷ run p xs) [])) (x ∷ xs)
+      go : (t : Bool) → xs ≡ leading p xs ++ drop (length (leading p xs)) xs
+          → x ∷ xs ≡ cond t (x ∷ leading p xs) [] ++ drop (length (cond t (x ∷ leading p xs) [])) (x ∷ xs)
       go true e = ap (λ r. x ∷ r) e
       go false e = refl
 
-  pub all-of-run : (xs : List ℕ) → length xs ≤ length (run p xs) → all p xs ≡ true
-  unfolding all run
+  pub all-of-run : (xs : List ℕ) → length xs ≤ length (leading p xs) → all p xs ≡ true
+  unfolding all leading
   all-of-run [] h = refl
   all-of-run (x ∷ xs) h = go (all-of-run xs) (p x) h
     where
-      go : (length xs ≤ length (run p xs) → all p xs ≡ true) → (t : Bool) → suc (length xs) ≤ length (cond t (x ∷ run p xs) [])
+      go : (length xs ≤ length (leading p xs) → all p xs ≡ true) → (t : Bool) → suc (length xs) ≤ length (cond t (x ∷ leading p xs) [])
           → (t && all p xs) ≡ true
       go rest true h = rest (omega arith)
       go rest false h = absurd (omega arith)
 
 -- the bytes of a word
-pub all-printable-run : (xs : List ℕ) → all isAllowed xs ≡ true → all isPrintable (run (λ c. not (isWhite c)) xs) ≡ true
-unfolding all run
+pub all-printable-run : (xs : List ℕ) → all isAllowed xs ≡ true → all isPrintable (leading (λ c. not (isWhite c)) xs) ≡ true
+unfolding all leading
 all-printable-run [] e = refl
 all-printable-run (x ∷ xs) e = go (isWhite x) refl (all-printable-run xs (all-tail isAllowed x xs e))
   where
-    go : (t : Bool) → isWhite x ≡ t → all isPrintable (run (λ c. not (isWhite c)) xs) ≡ true
-        → all isPrintable (cond (not t) (x ∷ run (λ c. not (isWhite c)) xs) []) ≡ true
+    go : (t : Bool) → isWhite x ≡ t → all isPrintable (leading (λ c. not (isWhite c)) xs) ≡ true
+        → all isPrintable (cond (not t) (x ∷ leading (λ c. not (isWhite c)) xs) []) ≡ true
     go true q h = refl
     go false q h = rw (allowed-printable x (all-head isAllowed x xs e) q, h)

@@ -1,5 +1,5 @@
 -- The class table: a table whose 256 entries pass one computed test has the class of each byte, and what such a table says of a byte is so.
-use mathlib.Core.Path.{_≡_, refl, sym, _∙_, ap}
+use mathlib.Core.Path.{_≡_, refl, _∙_, ap}
 use mathlib.Core.Bool.{Bool, true, false, not, _&&_, Bool·beq}
 use mathlib.Core.List.{List}
 use Prim.Native.Nat.{ℕ, zero, suc, _<_}
@@ -7,8 +7,8 @@ use native.Mathlib.Nat.{not-suc-le-zero}
 use native.Mathlib.Omega.{arith}
 use borrow.Author.Tests.{eqb-true, eqb-false, lt-ltb, le-ltb, leb-true, leb-false}
 use lib.Dec.{T, eqb, leb, ltb, eqb→eq}
-use lib.ListN.{length, getD}
-use Rattle.star_text.specs.Bytes.{isBlank, isTerminate, isWhite, isPrintable, classOf, Classes, classIn, whiteIn, terminateIn, belowIn, run}
+use lib.ListN.{getD}
+use Rattle.star_text.specs.Bytes.{isBlank, isTerminate, isWhite, isPrintable, classOf, Classes, classIn, whiteIn, terminateIn, belowIn, leading}
 use Rattle.star_text.proofs.Run.{run-agree}
 
 pub both-left : (a b : Bool) → T (a && b) → T a
@@ -83,8 +83,8 @@ module _ {table : List ℕ} (c : Classes table) where
     below-terminate = ltb-not-leb (classIn table b) 3 ∙ ap not terminate-is
 
   -- runs of bytes by their classes
-  pub run-word : (file : List ℕ) → ((i : ℕ) → getD file i 0 < 256) → run (belowIn table 2) file ≡ run (λ b. not (isWhite b)) file
+  pub run-word : (file : List ℕ) → ((i : ℕ) → getD file i 0 < 256) → leading (belowIn table 2) file ≡ leading (λ b. not (isWhite b)) file
   run-word file bytes = run-agree (belowIn table 2) (λ b. not (isWhite b)) below-white file bytes
 
-  pub run-line : (file : List ℕ) → ((i : ℕ) → getD file i 0 < 256) → run (belowIn table 3) file ≡ run (λ b. not (isTerminate b)) file
+  pub run-line : (file : List ℕ) → ((i : ℕ) → getD file i 0 < 256) → leading (belowIn table 3) file ≡ leading (λ b. not (isTerminate b)) file
   run-line file bytes = run-agree (belowIn table 3) (λ b. not (isTerminate b)) below-terminate file bytes

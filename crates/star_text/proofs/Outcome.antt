@@ -1,5 +1,5 @@
 -- Laws of outcomes: what a chain of checks that accepts, or refuses, tells of each check; and what an answer's number and place tell of the outcome.
-use mathlib.Core.Path.{_≡_, refl, sym, _∙_, ap}
+use mathlib.Core.Path.{_≡_, refl}
 use mathlib.Core.Bool.{Bool, true, false}
 use Prim.Native.Nat.{ℕ}
 use Rattle.star_text.specs.Outcome.{Outcome, refused, accepted, then, need, refusalOf, placeOf}

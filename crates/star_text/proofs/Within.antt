@@ -1,13 +1,13 @@
 -- Bytes that lie within bounds are allowed, and a file all of whose bytes are allowed has none that is refused.
-use mathlib.Core.Path.{_≡_, refl, sym, _∙_, ap}
+use mathlib.Core.Path.{_≡_, refl, ap}
 use mathlib.Core.Bool.{Bool, true, false}
 use mathlib.Core.List.{List, [], _∷_}
-use Prim.Native.Nat.{ℕ, zero, suc, _+_, _≤_, _<_}
+use Prim.Native.Nat.{ℕ, suc, _+_, _≤_, _<_}
 use native.Mathlib.Omega.{arith}
-use borrow.Author.Tests.{ltb-true, ltb-false, leb-true, leb-false, le-leb, lt-leb}
+use borrow.Author.Tests.{ltb-true, ltb-false, leb-false, le-leb}
 use lib.Dec.{ltb, leb}
 use lib.ListN.{length, getD}
-use Rattle.star_text.specs.Bytes.{isAllowed, run, firstRefused}
+use Rattle.star_text.specs.Bytes.{isAllowed, leading, firstRefused}
 
 -- of the first bytes none is below one bound or above another, and none above 13 is near 13
 abbrev pub Within : List ℕ → (low high over at : ℕ) → Type 0
@@ -36,8 +36,8 @@ allowed-by b h k f = go (leb b 13) refl
     go true e = rw (le-leb 9 b h, e)
     go false e = rw (le-leb 9 b h, e, le-leb 32 b (f (leb-false b 13 e)), le-leb b 126 k)
 
-all-run : (p : ℕ → Bool) (xs : List ℕ) → ((k : ℕ) → k < length xs → p (getD xs k 0) ≡ true) → length (run p xs) ≡ length xs
-unfolding run
+all-run : (p : ℕ → Bool) (xs : List ℕ) → ((k : ℕ) → k < length xs → p (getD xs k 0) ≡ true) → length (leading p xs) ≡ length xs
+unfolding leading
 all-run p [] f = refl
 all-run p (x ∷ xs) f = rw (f 0 (omega arith)) (ap suc (all-run p xs (λ k h. f (suc k) (omega (arith, h)))))
 

@@ -57,10 +57,10 @@ all p [] = true
 all p (b ∷ bs) = p b && all p bs
 
 -- the longest first part all of whose bytes pass a test
-unfoldable pub run : (ℕ → Bool) → List ℕ → List ℕ
-run p [] = []
-run p (b ∷ bs) = cond (p b) (b ∷ run p bs) []
+unfoldable pub leading : (ℕ → Bool) → List ℕ → List ℕ
+leading p [] = []
+leading p (b ∷ bs) = cond (p b) (b ∷ leading p bs) []
 
 -- the place of the first byte that is not allowed, or the file's length where there is none
 unfoldable pub firstRefused : List ℕ → ℕ
-firstRefused file = length (run isAllowed file)
+firstRefused file = length (leading isAllowed file)

@@ -3,7 +3,7 @@ ghost use mathlib.Core.Path.{_≡_};
 ghost use mathlib.Core.Bool.{true};
 ghost use Prim.Native.Nat.{ℕ, _+_, _≤_, _<_};
 ghost use lib.ListN.{length, getD, drop};
-ghost use Rattle.star_text.specs.Bytes.{Classes, classIn, terminateIn, whiteIn, belowIn, isAllowed, firstRefused, run};
+ghost use Rattle.star_text.specs.Bytes.{Classes, classIn, terminateIn, whiteIn, belowIn, isAllowed, firstRefused, leading};
 ghost use Rattle.star_text.specs.Names.{same as Names·same};
 
 // The most bytes that a file may have.
@@ -404,8 +404,8 @@ fn four_below(classes: &[u8; 256], file: &[u8], at: usize, class: u8) -> bool
 
 // A place of the run from `from` on of bytes whose class is below `class`, which ends where the run from there ends: four are passed at a time.
 fn skip_below(classes: &[u8; 256], file: &[u8], from: usize, class: u8) -> usize
-    ensures { λ r. ⌜ r + length (run (belowIn (now (classes .entry)) class) (drop r (now (file .entry))))
-        ≡ from + length (run (belowIn (now (classes .entry)) class) (drop from (now (file .entry)))) ⌝ }
+    ensures { λ r. ⌜ r + length (leading (belowIn (now (classes .entry)) class) (drop r (now (file .entry))))
+        ≡ from + length (leading (belowIn (now (classes .entry)) class) (drop from (now (file .entry)))) ⌝ }
 {
     let mut at = from;
     while at < file.len() {
@@ -422,7 +422,7 @@ fn skip_below(classes: &[u8; 256], file: &[u8], from: usize, class: u8) -> usize
 
 // The end of the run of bytes from `from` on whose class is below `class`.
 pub fn run_end(classes: &[u8; 256], file: &[u8], from: usize, class: u8) -> usize
-    ensures { λ r. ⌜ r ≡ from + length (run (belowIn (now (classes .entry)) class) (drop from (now (file .entry)))) ⌝ }
+    ensures { λ r. ⌜ r ≡ from + length (leading (belowIn (now (classes .entry)) class) (drop from (now (file .entry)))) ⌝ }
 {
     let mut at = skip_below(classes, file, from, class);
     while at < file.len() {

@@ -12,7 +12,7 @@ use lib.ListN.{length, getD, take, drop}
 use lib.Seq.{take-suc, split-at, length-take-le}
 use Rattle.star_lex.specs.Tokens.{Token}
 use Rattle.star_unique.specs.Repeat.{Taken, isTaken, takes, firstRepeat}
-use Rattle.star_unique.specs.Seen.{takesAll}
+use Rattle.star_unique.proofs.Seen.{takesAll}
 
 -- none of them is taken where it stands
 abbrev pub Clean : Taken → List Token → Type 0

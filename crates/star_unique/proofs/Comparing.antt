@@ -7,7 +7,7 @@ use Rattle.star_lex.specs.Tokens.{Placed}
 use Rattle.star_text.specs.Outcome.{refused, accepted}
 use Rattle.star_lex.specs.Split.{Split, placed}
 use Rattle.star_text.proofs.Outcome.{told-refused, told-accepted}
-use Rattle.star_lex.specs.Found.{tokensIn}
+use Rattle.star_lex.specs.Answer.{tokensIn}
 use Rattle.star_lex.proofs.Answers.{in-number}
 use Rattle.star_lex.proofs.Held.{accepted-tokens}
 use Rattle.star_unique.specs.Repeat.{nothing, firstRepeat}

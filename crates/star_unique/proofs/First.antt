@@ -10,7 +10,7 @@ use borrow.Author.Tests.{ltb-true, ltb-false}
 use Rattle.star_lex.specs.Tokens.{Token}
 use Rattle.star_lex.proofs.Cases.{impossible}
 use Rattle.star_unique.specs.Repeat.{Taken, isTaken, takes, firstRepeat}
-use Rattle.star_unique.specs.Seen.{takesAll}
+use Rattle.star_unique.proofs.Seen.{takesAll}
 use Rattle.star_unique.proofs.Clean.{Clean, clean-append, repeat-within, repeat-clean, repeat-before}
 
 pub record FirstTaken (s : Taken) (ts : List Token) : Type 0 where

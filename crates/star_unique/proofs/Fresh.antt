@@ -12,7 +12,7 @@ use Rattle.star_text.specs.Names.{key}
 use Rattle.star_lex.specs.Tokens.{Token, Each}
 use Rattle.star_grammar.specs.Tree.{frameEnd, stop, IsValue}
 use Rattle.star_unique.specs.Repeat.{Taken, nothing, takes, takeBlock, takeFrame, endFrame, takeName}
-use Rattle.star_unique.specs.Seen.{takesAll}
+use Rattle.star_unique.proofs.Seen.{takesAll}
 use Rattle.star_unique.proofs.Clean.{Clean, clean-append}
 use Rattle.star_unique.proofs.Distinct.{among-absent}
 use Rattle.star_unique.proofs.Names.{namesIn, opened, name-taken, other-taken}

@@ -1,3 +1,4 @@
+pub mod Seen
 pub mod Chain
 pub mod Clean
 pub mod Comparing

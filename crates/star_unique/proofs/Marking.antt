@@ -11,9 +11,9 @@ use lib.ListN.{length, getD, set, take, replicate, length-set, length-replicate,
 use lib.Seq.{getD-set-same, getD-set-other, take-all}
 use Rattle.star_lex.specs.Tokens.{Token}
 use Rattle.star_unique.specs.Repeat.{nothing, isTaken, firstRepeat}
-use Rattle.star_unique.specs.Seen.{takesAll}
+use Rattle.star_unique.proofs.Seen.{takesAll}
 use Rattle.star_lex.specs.Holds.{Holds, fileTokens, tokenAt}
-use Rattle.star_unique.specs.Chain.{tableOf, sortOf, sortAt, passed, scopeAt, floorOf, bucketOf, bucketAt, latest, markAt, earlier, takenAt}
+use Rattle.star_unique.specs.Chain.{heldTable, nameSort, sortAt, passed, scopeAt, floorOf, bucketOf, bucketAt, latest, markAt, earlier, takenAt}
 use Rattle.star_unique.specs.Marked.{Spans, Marked, Heads, Visited}
 use Rattle.star_unique.specs.declared.Scope.{Scope}
 use Rattle.star_unique.proofs.Clean.{Clean, takes-next, clean-next, repeat-here, clean-repeat}
@@ -55,9 +55,9 @@ module _ (file words : List ℕ) (count n : ℕ) (k : Marked file words count 0 
   room-here = omega (arith, k .spans .table .room, k .spans .table .count-is, k .spans .size)
 
   pub kind-here : getD words (n * 3) 0 ≡ tokenAt file n .kind
-  kind-here = k .ahead n (omega arith) ∙ held-row file (tableOf file (length words)) count (k .spans .table) n below .kind
+  kind-here = k .ahead n (omega arith) ∙ held-row file (heldTable file (length words)) count (k .spans .table) n below .kind
 
-  pub sort-here : (c : Scope) → c ≡ scopeAt (tokenAt file) n → sortOf (c .inside) (getD words (n * 3) 0) ≡ sortAt (tokenAt file) n
+  pub sort-here : (c : Scope) → c ≡ scopeAt (tokenAt file) n → nameSort (c .inside) (getD words (n * 3) 0) ≡ sortAt (tokenAt file) n
   unfolding sortAt
   sort-here c e = rw (e, kind-here)
 
@@ -195,7 +195,7 @@ taken-at file words count h n below =
     taken-is (tokenAt file) _ n (agrees-at file words count h (tokenAt file n .content) n (omega arith))
 
 module _ (file words heads : List ℕ) (count n : ℕ) (c : Scope) (b : Between file words heads count n c) (below : n < count) where
-  h : Holds file (tableOf file (length words)) count
+  h : Holds file (heldTable file (length words)) count
   h = b .marks .spans .table
 
   few : n < length (fileTokens file)

@@ -13,7 +13,7 @@ use Rattle.star_text.specs.Bytes.{mostBytes}
 use Rattle.star_lex.specs.Tokens.{Token}
 use Rattle.star_text.specs.Names.{same}
 use Rattle.star_lex.specs.Holds.{Holds, tokenAt}
-use Rattle.star_unique.specs.Chain.{tableOf, sortOf, sortAt, scopeAt, mix, bucketOf, bucketAt, latest, markAt, earlier}
+use Rattle.star_unique.specs.Chain.{heldTable, nameSort, sortAt, scopeAt, mix, bucketOf, bucketAt, latest, markAt, earlier}
 use Rattle.star_unique.specs.Marked.{Spans, Marked}
 use Rattle.star_lex.proofs.Held.{Row, held-row}
 use Rattle.star_unique.proofs.Chain.{latest-within, latest-again, latest-in, bucket-below, bucket-sort, earlier-floor, earlier-other, earlier-here, earlier-last}
@@ -46,7 +46,7 @@ holds-spans file words count h = record {
 
 pub spans-at : (file words : List ℕ) (count : ℕ) → Spans file words count → (n : ℕ) → n < count → Span file words n
 spans-at file words count s n h =
-    let r : Row file (tableOf file (length words)) n = held-row file (tableOf file (length words)) count (s .table) n h in
+    let r : Row file (heldTable file (length words)) n = held-row file (heldTable file (length words)) count (s .table) n h in
     record {
       room = omega (arith, s .table .room, s .table .count-is, s .size);
       small = s .table .small;
@@ -92,7 +92,7 @@ module _ (at : ℕ → Token) (sort : ℕ) (x : List ℕ) (floor n : ℕ) (some 
 -- the word of a marked row
 module _ (at : ℕ → Token) (n : ℕ) where
   pub sort-below : sortAt at n < 16
-  unfolding sortAt sortOf
+  unfolding sortAt nameSort
   sort-below = go (scopeAt at n .inside) (eqb (at n .kind) 6) (eqb (at n .kind) 1) (eqb (at n .kind) 2)
     where
       go : (i p q r : Bool) → cond p (cond i 13 6) (cond q 1 (cond r 2 0)) < 16

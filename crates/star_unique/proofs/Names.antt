@@ -15,7 +15,7 @@ use Rattle.star_lex.specs.Tokens.{Token, Each}
 use Rattle.star_grammar.specs.Tree.{IsName, IsValue}
 use Rattle.star_grammar.specs.Reading.{Distinct, contents}
 use Rattle.star_unique.specs.Repeat.{Taken, among, isTaken, takes, takeName}
-use Rattle.star_unique.specs.Seen.{takesAll}
+use Rattle.star_unique.proofs.Seen.{takesAll}
 use Rattle.star_unique.proofs.Clean.{Clean}
 use Rattle.star_unique.proofs.Distinct.{distinct-among}
 

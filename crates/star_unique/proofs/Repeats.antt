@@ -9,11 +9,12 @@ use native.Mathlib.Omega.{arith}
 use lib.ListN.{length, replicate}
 use lib.Seq.{append-snoc}
 use Rattle.star_text.specs.Names.{key}
+use Rattle.star_lex.specs.Rules.{Rules}
 use Rattle.star_lex.specs.Tokens.{Token, Each}
-use Rattle.star_grammar.specs.Tree.{frameEnd, loopStart, stop, IsName, IsValue, Inner, Packet, innerYield, packetYield, InnerWhole, PacketWhole, loopYield, Entry, item, looped, entryYield, EntryWhole, frameYield, Member, own, framed, memberYield, MemberWhole, Block, blockYield, BlockWhole, File, fileYield, FileWhole}
+use Rattle.star_grammar.specs.Tree.{frameEnd, loopStart, stop, IsName, IsValue, Inner, Packet, innerYield, packetYield, InnerWhole, PacketWhole, loopYield, Entry, item, looped, entryYield, EntryBy, frameYield, Member, own, framed, memberYield, MemberBy, Block, blockYield, BlockBy, File, fileYield, FileBy}
 use Rattle.star_grammar.specs.Reading.{Distinct, contents, entryNames, ownNames, frameCodes, FrameDistinct, BlockDistinct, FileDistinct}
 use Rattle.star_unique.specs.Repeat.{Taken, nothing, among, isTaken, takes, takeBlock, takeFrame, endFrame, takeName, firstRepeat}
-use Rattle.star_unique.specs.Seen.{takesAll}
+use Rattle.star_unique.proofs.Seen.{takesAll}
 use Rattle.star_unique.proofs.Clean.{Clean, takes-append, clean-append, repeat-clean, clean-repeat}
 use Rattle.star_unique.proofs.Distinct.{distinct-among}
 use Rattle.star_unique.proofs.Names.{namesIn, Inside, names-append, names-names, names-values, inside-takes, inside-clean}
@@ -86,10 +87,10 @@ naming-stops (suc n) = naming-append naming-stop (naming-stops n)
 naming-level : (ns : List Token) → Each IsName ns → Naming (loopStart ∷ ns) (contents ns)
 naming-level ns h = naming-append naming-loop (naming-names ns h)
 
-naming-entry : (limit : ℕ) (e : Entry) → EntryWhole limit e → Naming (entryYield e) (entryNames e)
-unfolding entryYield EntryWhole entryNames loopYield
-naming-entry limit (item n v) h = naming-append (naming-names (n ∷ []) (h .0, tt)) (naming-values (v ∷ []) (h .1, tt))
-naming-entry limit (looped l) h =
+naming-entry : (rules : Rules) (e : Entry) → EntryBy rules e → Naming (entryYield e) (entryNames e)
+unfolding entryYield entryNames loopYield
+naming-entry rules (item n v) h = naming-append (naming-names (n ∷ []) (h .0, tt)) (naming-values (v ∷ []) (h .1, tt))
+naming-entry rules (looped l) h =
     let ls : List ℕ = map length (l .deeper) in
     rw (← (append-nil (flatMap contents (l .deeper))))
     (naming-append (naming-level (l .names) (h .are-names))
@@ -97,8 +98,8 @@ naming-entry limit (looped l) h =
     (naming-append (naming-stops (l .stops))
     (naming-none (PacketWhole (length (l .names)) ls) (packetYield ls) (naming-packet (length (l .names)) ls (naming-inner ls)) (l .packets) (h .whole)))))
 
-naming-entries : (limit : ℕ) (es : List Entry) → Each (EntryWhole limit) es → Naming (flatMap entryYield es) (flatMap entryNames es)
-naming-entries limit = naming-each (EntryWhole limit) entryYield entryNames (naming-entry limit)
+naming-entries : (rules : Rules) (es : List Entry) → Each (EntryBy rules) es → Naming (flatMap entryYield es) (flatMap entryNames es)
+naming-entries rules = naming-each (EntryBy rules) entryYield entryNames (naming-entry rules)
 
 -- between the entries of a block, and of a frame: what is taken so far
 abbrev inBlock : (blocks frames names : List (List ℕ)) → Taken
@@ -144,31 +145,31 @@ end-free : (s : Taken) → isTaken s frameEnd ≡ false
 unfolding isTaken frameEnd
 end-free s = refl
 
-module _ (limit : ℕ) (bs : List (List ℕ)) where
-  member-takes : (m : Member) → MemberWhole limit m → (fs ns : List (List ℕ))
+module _ (rules : Rules) (bs : List (List ℕ)) where
+  member-takes : (m : Member) → MemberBy rules m → (fs ns : List (List ℕ))
       → takesAll (inBlock bs fs ns) (memberYield m) ≡ inBlock bs (fs ++ frameCodes m) (ns ++ ownNames m)
-  unfolding memberYield MemberWhole frameCodes ownNames frameYield
-  member-takes (own e) h fs ns = rw append-nil (block-takes bs fs (naming-entry limit e h) ns)
+  unfolding memberYield frameCodes ownNames frameYield
+  member-takes (own e) h fs ns = rw append-nil (block-takes bs fs (naming-entry rules e h) ns)
   member-takes (framed f) h fs ns =
       let gs : List (List ℕ) = fs ++ (key (f .heading .content) ∷ []) in
       let ts : List Token = flatMap entryYield (f .entries) in
       ap (λ s. takesAll s (ts ++ (frameEnd ∷ []))) (frame-start bs fs ns (f .heading) (h .heading))
       ∙ takes-append (inFrame bs gs ns []) ts (frameEnd ∷ [])
-      ∙ ap (λ s. takes s frameEnd) (frame-takes bs gs (naming-entries limit (f .entries) (h .entries)) ns)
+      ∙ ap (λ s. takes s frameEnd) (frame-takes bs gs (naming-entries rules (f .entries) (h .entries)) ns)
       ∙ frame-left bs gs ns (flatMap entryNames (f .entries))
       ∙ ap (inBlock bs gs) (sym (append-nil ns))
 
-  member-clean : (m : Member) → MemberWhole limit m → (fs ns : List (List ℕ))
+  member-clean : (m : Member) → MemberBy rules m → (fs ns : List (List ℕ))
       → (Distinct fs × Distinct ns × Clean (inBlock bs fs ns) (memberYield m))
       ↔ (Distinct (fs ++ frameCodes m) × Distinct (ns ++ ownNames m) × FrameDistinct m)
-  unfolding memberYield MemberWhole frameCodes ownNames frameYield FrameDistinct
+  unfolding memberYield frameCodes ownNames frameYield FrameDistinct
   member-clean (own e) h fs ns =
-      let k : (Distinct ns × Clean (inBlock bs fs ns) (entryYield e)) ↔ Distinct (ns ++ entryNames e) = block-clean bs fs (naming-entry limit e h) ns in
+      let k : (Distinct ns × Clean (inBlock bs fs ns) (entryYield e)) ↔ Distinct (ns ++ entryNames e) = block-clean bs fs (naming-entry rules e h) ns in
       rw append-nil (λ c. (c .0, k .0 (c .1, c .2), tt), λ d. (d .0, k .1 (d .1) .0, k .1 (d .1) .1))
   member-clean (framed f) h fs ns =
       let gs : List (List ℕ) = fs ++ (key (f .heading .content) ∷ []) in
       let ts : List Token = flatMap entryYield (f .entries) in
-      let k : Clean (inFrame bs gs ns []) ts ↔ Distinct (flatMap entryNames (f .entries)) = frame-clean bs gs (naming-entries limit (f .entries) (h .entries)) ns in
+      let k : Clean (inFrame bs gs ns []) ts ↔ Distinct (flatMap entryNames (f .entries)) = frame-clean bs gs (naming-entries rules (f .entries) (h .entries)) ns in
       let a : Clean (inFrame bs gs ns []) (ts ++ (frameEnd ∷ [])) ↔ (Clean (inFrame bs gs ns []) ts × Clean (takesAll (inFrame bs gs ns []) ts) (frameEnd ∷ []))
       = clean-append (inFrame bs gs ns []) ts (frameEnd ∷ []) in
       let d : (Distinct fs × (among (key (f .heading .content)) fs ≡ false)) ↔ Distinct gs = distinct-among fs (key (f .heading .content)) in
@@ -177,7 +178,7 @@ module _ (limit : ℕ) (bs : List (List ℕ)) where
         λ c. (d .1 (c .0) .0, c .1, (d .1 (c .0) .1, a .1 (k .1 (c .2), (end-free (takesAll (inFrame bs gs ns []) ts), tt)))),
       )
 
-  members-takes : (ms : List Member) → Each (MemberWhole limit) ms → (fs ns : List (List ℕ))
+  members-takes : (ms : List Member) → Each (MemberBy rules) ms → (fs ns : List (List ℕ))
       → takesAll (inBlock bs fs ns) (flatMap memberYield ms) ≡ inBlock bs (fs ++ flatMap frameCodes ms) (ns ++ flatMap ownNames ms)
   unfolding flatMap
   members-takes [] h fs ns = rw (append-nil fs, append-nil ns)
@@ -190,7 +191,7 @@ module _ (limit : ℕ) (bs : List (List ℕ)) where
       )
       (members-takes ms (h .1) (fs ++ frameCodes m) (ns ++ ownNames m))
 
-  members-clean : (ms : List Member) → Each (MemberWhole limit) ms → (fs ns : List (List ℕ))
+  members-clean : (ms : List Member) → Each (MemberBy rules) ms → (fs ns : List (List ℕ))
       → (Distinct fs × Distinct ns × Clean (inBlock bs fs ns) (flatMap memberYield ms))
       ↔ (Distinct (fs ++ flatMap frameCodes ms) × Distinct (ns ++ flatMap ownNames ms) × Each FrameDistinct ms)
   unfolding flatMap
@@ -224,29 +225,29 @@ heading-taken : (s : Taken) (t : Token) → t .kind ≡ 1 → isTaken s t ≡ am
 unfolding isTaken
 heading-taken s t e = rw e
 
-module _ (limit : ℕ) where
+module _ (rules : Rules) where
   -- a block leaves its code
-  block-code : (b : Block) → BlockWhole limit b → (s : Taken) → takesAll s (blockYield b) .blocks ≡ s .blocks ++ (key (b .heading .content) ∷ [])
+  block-code : (b : Block) → BlockBy rules b → (s : Taken) → takesAll s (blockYield b) .blocks ≡ s .blocks ++ (key (b .heading .content) ∷ [])
   unfolding blockYield
   block-code b h s =
       let bs : List (List ℕ) = s .blocks ++ (key (b .heading .content) ∷ []) in
       ap (λ r. takesAll r (flatMap memberYield (b .members)) .blocks) (heading-takes s (b .heading) (h .heading))
-      ∙ ap (λ r. r .blocks) (members-takes limit bs (b .members) (h .members) [] [])
+      ∙ ap (λ r. r .blocks) (members-takes rules bs (b .members) (h .members) [] [])
 
-  block-distinct : (b : Block) → BlockWhole limit b → (s : Taken)
+  block-distinct : (b : Block) → BlockBy rules b → (s : Taken)
       → Clean s (blockYield b) ↔ ((among (key (b .heading .content)) (s .blocks) ≡ false) × BlockDistinct b)
   unfolding blockYield
   block-distinct b h s =
       let bs : List (List ℕ) = s .blocks ++ (key (b .heading .content) ∷ []) in
       let ms : List Token = flatMap memberYield (b .members) in
       let k : (Unit {0} × Unit {0} × Clean (inBlock bs [] []) ms) ↔ (Distinct (flatMap frameCodes (b .members)) × Distinct (flatMap ownNames (b .members)) × Each FrameDistinct (b .members))
-      = members-clean limit bs (b .members) (h .members) [] [] in
+      = members-clean rules bs (b .members) (h .members) [] [] in
       rw (heading-taken s (b .heading) (h .heading), heading-takes s (b .heading) (h .heading)) (
         λ c. (c .0, record { names = k .0 (tt, tt, c .1) .1; codes = k .0 (tt, tt, c .1) .0; frames = k .0 (tt, tt, c .1) .2 }),
         λ c. (c .0, k .1 (c .1 .codes, c .1 .names, c .1 .frames) .2),
       )
 
-  file-distinct : (f : File) → FileWhole limit f → (s : Taken)
+  file-distinct : (f : File) → FileBy rules f → (s : Taken)
       → (Distinct (s .blocks) × Clean s (fileYield f)) ↔ (Distinct (s .blocks ++ map (λ b. key (b .heading .content)) f) × Each BlockDistinct f)
   unfolding flatMap
   file-distinct [] h s = rw append-nil (λ c. c, λ c. c)
@@ -270,7 +271,7 @@ module _ (limit : ℕ) where
       )
 
   -- a whole tree is distinct exactly when its tokens repeat nothing
-  pub repeat-distinct : (f : File) → FileWhole limit f → FileDistinct f ↔ (firstRepeat nothing (fileYield f) ≡ length (fileYield f))
+  pub repeat-distinct : (f : File) → FileBy rules f → FileDistinct f ↔ (firstRepeat nothing (fileYield f) ≡ length (fileYield f))
   unfolding nothing
   repeat-distinct f h =
       let k : (Unit {0} × Clean nothing (fileYield f)) ↔ (Distinct (map (λ b. key (b .heading .content)) f) × Each BlockDistinct f) = file-distinct f h nothing in (

@@ -2,7 +2,7 @@
 use mathlib.Core.Path.{_≡_, refl, sym, _∙_}
 use mathlib.Core.Bool.{Bool, true, false, cond, _||_, or-false, or-assoc}
 use mathlib.Core.List.{List, [], _∷_, _++_}
-use Prim.Native.Nat.{ℕ, suc, _+_, _≤_}
+use Prim.Native.Nat.{ℕ, suc, _≤_}
 use native.Mathlib.Omega.{arith}
 use lib.Dec.{eqb}
 use borrow.Author.Tests.{eqb-true, eqb-false, eq-eqb, ne-eqb, le-leb}
@@ -10,7 +10,7 @@ use Rattle.star_text.specs.Names.{key, equal, same}
 use Rattle.star_lex.specs.Tokens.{Token}
 use Rattle.star_lex.proofs.Cases.{impossible}
 use Rattle.star_unique.specs.Repeat.{Taken, nothing, among, isTaken, takes, takeBlock, takeFrame, endFrame, takeName}
-use Rattle.star_unique.specs.Chain.{sortOf, floorOf, passed, scopeAt, sortAt, earlier, takenAt}
+use Rattle.star_unique.specs.Chain.{nameSort, floorOf, passed, scopeAt, sortAt, earlier, takenAt}
 use Rattle.star_unique.specs.declared.Scope.{Scope}
 use Rattle.star_unique.proofs.Chain.{earlier-floor, earlier-other}
 
@@ -42,24 +42,24 @@ agrees-nothing at x = record {
 }
 
 module _ (at : ℕ → Token) (x : List ℕ) (s : Taken) (c : Scope) (n : ℕ) (a : Agrees at x s c n) where
-  other : (sort floor : ℕ) → (sortAt at n ≡ sort → ⊥) → earlier at sort x floor n ≡ earlier at sort x floor (suc n)
-  other sort floor h = sym (earlier-other at sort x floor n (rw (ne-eqb (sortAt at n) sort h)))
+  earlier-unsorted : (sort floor : ℕ) → (sortAt at n ≡ sort → ⊥) → earlier at sort x floor n ≡ earlier at sort x floor (suc n)
+  earlier-unsorted sort floor h = sym (earlier-other at sort x floor n (rw (ne-eqb (sortAt at n) sort h)))
 
-  more : (sort floor : ℕ) → sortAt at n ≡ sort → floor ≤ n → (ys : List (List ℕ)) → among (key x) ys ≡ earlier at sort x floor n
+  earlier-taken : (sort floor : ℕ) → sortAt at n ≡ sort → floor ≤ n → (ys : List (List ℕ)) → among (key x) ys ≡ earlier at sort x floor n
       → among (key x) (ys ++ (key (at n .content) ∷ [])) ≡ earlier at sort x floor (suc n)
   unfolding earlier same
-  more sort floor e h ys q = among-more (key x) ys (key (at n .content)) ∙ rw (q, eq-eqb (sortAt at n) sort e, le-leb floor n h)
+  earlier-taken sort floor e h ys q = among-more (key x) ys (key (at n .content)) ∙ rw (q, eq-eqb (sortAt at n) sort e, le-leb floor n h)
 
-  none : (sort : ℕ) → among (key x) [] ≡ earlier at sort x (suc n) (suc n)
+  earlier-fresh : (sort : ℕ) → among (key x) [] ≡ earlier at sort x (suc n) (suc n)
   unfolding among
-  none sort = sym (earlier-floor at sort x (suc n) (suc n) (omega arith))
+  earlier-fresh sort = sym (earlier-floor at sort x (suc n) (suc n) (omega arith))
 
   after-block : sortAt at n ≡ 1 → Agrees at x (takeBlock s (at n)) (record { block = suc n; frame = suc n; inside = false }) (suc n)
   unfolding takeBlock
   after-block e = record {
-    blocks = more 1 0 e (omega arith) (s .blocks) (a .blocks);
-    frames = none 2;
-    names = none 6;
+    blocks = earlier-taken 1 0 e (omega arith) (s .blocks) (a .blocks);
+    frames = earlier-fresh 2;
+    names = earlier-fresh 6;
     inside = refl;
     inner = λ f. impossible cc;
     block-within = omega arith;
@@ -69,11 +69,11 @@ module _ (at : ℕ → Token) (x : List ℕ) (s : Taken) (c : Scope) (n : ℕ) (
   after-frame : sortAt at n ≡ 2 → Agrees at x (takeFrame s (at n)) (record { block = c .block; frame = suc n; inside = true }) (suc n)
   unfolding takeFrame
   after-frame e = record {
-    blocks = a .blocks ∙ other 1 0 (λ q. absurd (omega arith));
-    frames = more 2 (c .block) e (a .block-within) (s .frames) (a .frames);
-    names = a .names ∙ other 6 (c .block) (λ q. absurd (omega arith));
+    blocks = a .blocks ∙ earlier-unsorted 1 0 (λ q. absurd (omega arith));
+    frames = earlier-taken 2 (c .block) e (a .block-within) (s .frames) (a .frames);
+    names = a .names ∙ earlier-unsorted 6 (c .block) (λ q. absurd (omega arith));
     inside = refl;
-    inner = λ f. none 13;
+    inner = λ f. earlier-fresh 13;
     block-within = omega (arith, a .block-within);
     frame-within = omega arith;
   }
@@ -81,9 +81,9 @@ module _ (at : ℕ → Token) (x : List ℕ) (s : Taken) (c : Scope) (n : ℕ) (
   after-end : sortAt at n ≡ 0 → Agrees at x (endFrame s) (record { block = c .block; frame = c .frame; inside = false }) (suc n)
   unfolding endFrame
   after-end e = record {
-    blocks = a .blocks ∙ other 1 0 (λ q. absurd (omega arith));
-    frames = a .frames ∙ other 2 (c .block) (λ q. absurd (omega arith));
-    names = a .names ∙ other 6 (c .block) (λ q. absurd (omega arith));
+    blocks = a .blocks ∙ earlier-unsorted 1 0 (λ q. absurd (omega arith));
+    frames = a .frames ∙ earlier-unsorted 2 (c .block) (λ q. absurd (omega arith));
+    names = a .names ∙ earlier-unsorted 6 (c .block) (λ q. absurd (omega arith));
     inside = refl;
     inner = λ f. impossible cc;
     block-within = omega (arith, a .block-within);
@@ -92,11 +92,11 @@ module _ (at : ℕ → Token) (x : List ℕ) (s : Taken) (c : Scope) (n : ℕ) (
 
   after-other : sortAt at n ≡ 0 → Agrees at x s c (suc n)
   after-other e = record {
-    blocks = a .blocks ∙ other 1 0 (λ q. absurd (omega arith));
-    frames = a .frames ∙ other 2 (c .block) (λ q. absurd (omega arith));
-    names = a .names ∙ other 6 (c .block) (λ q. absurd (omega arith));
+    blocks = a .blocks ∙ earlier-unsorted 1 0 (λ q. absurd (omega arith));
+    frames = a .frames ∙ earlier-unsorted 2 (c .block) (λ q. absurd (omega arith));
+    names = a .names ∙ earlier-unsorted 6 (c .block) (λ q. absurd (omega arith));
     inside = a .inside;
-    inner = λ f. a .inner f ∙ other 13 (c .frame) (λ q. absurd (omega arith));
+    inner = λ f. a .inner f ∙ earlier-unsorted 13 (c .frame) (λ q. absurd (omega arith));
     block-within = omega (arith, a .block-within);
     frame-within = omega (arith, a .frame-within);
   }
@@ -104,11 +104,11 @@ module _ (at : ℕ → Token) (x : List ℕ) (s : Taken) (c : Scope) (n : ℕ) (
   after-inner : c .inside ≡ true → sortAt at n ≡ 13 → Agrees at x (takeName s (at n)) c (suc n)
   unfolding takeName
   after-inner f e = rw (a .inside ∙ f) (record {
-    blocks = a .blocks ∙ other 1 0 (λ q. absurd (omega arith));
-    frames = a .frames ∙ other 2 (c .block) (λ q. absurd (omega arith));
-    names = a .names ∙ other 6 (c .block) (λ q. absurd (omega arith));
+    blocks = a .blocks ∙ earlier-unsorted 1 0 (λ q. absurd (omega arith));
+    frames = a .frames ∙ earlier-unsorted 2 (c .block) (λ q. absurd (omega arith));
+    names = a .names ∙ earlier-unsorted 6 (c .block) (λ q. absurd (omega arith));
     inside = sym f;
-    inner = λ g. more 13 (c .frame) e (a .frame-within) (s .inner) (a .inner f);
+    inner = λ g. earlier-taken 13 (c .frame) e (a .frame-within) (s .inner) (a .inner f);
     block-within = omega (arith, a .block-within);
     frame-within = omega (arith, a .frame-within);
   })
@@ -116,9 +116,9 @@ module _ (at : ℕ → Token) (x : List ℕ) (s : Taken) (c : Scope) (n : ℕ) (
   after-name : c .inside ≡ false → sortAt at n ≡ 6 → Agrees at x (takeName s (at n)) c (suc n)
   unfolding takeName
   after-name f e = rw (a .inside ∙ f) (record {
-    blocks = a .blocks ∙ other 1 0 (λ q. absurd (omega arith));
-    frames = a .frames ∙ other 2 (c .block) (λ q. absurd (omega arith));
-    names = more 6 (c .block) e (a .block-within) (s .names) (a .names);
+    blocks = a .blocks ∙ earlier-unsorted 1 0 (λ q. absurd (omega arith));
+    frames = a .frames ∙ earlier-unsorted 2 (c .block) (λ q. absurd (omega arith));
+    names = earlier-taken 6 (c .block) e (a .block-within) (s .names) (a .names);
     inside = sym f;
     inner = λ g. impossible cc;
     block-within = omega (arith, a .block-within);
@@ -127,10 +127,10 @@ module _ (at : ℕ → Token) (x : List ℕ) (s : Taken) (c : Scope) (n : ℕ) (
 
   -- one token more
   pub agrees-next : c ≡ scopeAt at n → Agrees at x (takes s (at n)) (passed c (at n .kind) (suc n)) (suc n)
-  unfolding takes passed sortAt sortOf
+  unfolding takes passed sortAt nameSort
   agrees-next e = go (eqb (at n .kind) 1) refl (eqb (at n .kind) 2) refl (eqb (at n .kind) 3) refl (eqb (at n .kind) 6) refl
     where
-      sort-is : (k : ℕ) → at n .kind ≡ k → sortAt at n ≡ sortOf (c .inside) k
+      sort-is : (k : ℕ) → at n .kind ≡ k → sortAt at n ≡ nameSort (c .inside) k
       sort-is k d = rw (e, d)
 
       sort-other : (at n .kind ≡ 1 → ⊥) → (at n .kind ≡ 2 → ⊥) → (at n .kind ≡ 6 → ⊥) → sortAt at n ≡ 0
@@ -153,7 +153,7 @@ module _ (at : ℕ → Token) (x : List ℕ) (s : Taken) (c : Scope) (n : ℕ) (
 
 -- a token is taken as its sort and scope say
 pub taken-is : (at : ℕ → Token) (s : Taken) (n : ℕ) → Agrees at (at n .content) s (scopeAt at n) n → takenAt at n ≡ isTaken s (at n)
-unfolding takenAt isTaken sortAt sortOf floorOf
+unfolding takenAt isTaken sortAt nameSort floorOf
 taken-is at s n a = go (scopeAt at n .inside) refl (eqb (at n .kind) 6) refl (eqb (at n .kind) 1) refl (eqb (at n .kind) 2) refl
   where
     go : (i : Bool) → scopeAt at n .inside ≡ i → (p : Bool) → eqb (at n .kind) 6 ≡ p → (q : Bool) → eqb (at n .kind) 1 ≡ q → (r : Bool)

@@ -11,10 +11,10 @@ use lib.Seq.{ext-getD}
 use Rattle.star_lex.specs.Tokens.{Token, Each}
 use Rattle.star_text.specs.Outcome.{refused, accepted}
 use Rattle.star_lex.specs.Split.{Split, tokensOf, placed}
-use Rattle.star_lex.specs.WellFormed.{WellFormed, block, frame, frameEnd, loop, stop, name, word, reference, single, double, text, global}
+use Rattle.star_lex.proofs.Formed.{WellFormed, block, frame, frameEnd, loop, stop, name, word, reference, single, double, text, global}
 use Rattle.star_lex.proofs.WellFormed.{split-well-formed}
 use Rattle.star_lex.specs.Holds.{Holds, fileTokens, tokenAt}
-use Rattle.star_unique.specs.Chain.{tableOf, sortOf, sortAt, scopeAt, markAt, kindOf}
+use Rattle.star_unique.specs.Chain.{heldTable, nameSort, sortAt, scopeAt, markAt, unmarkedKind}
 use Rattle.star_unique.specs.Marked.{Marked}
 use Rattle.star_lex.proofs.Held.{held-row, count-tokens}
 use Rattle.star_lex.proofs.Each.{each-at}
@@ -49,16 +49,16 @@ kind-below file words count h n below =
 
 -- a marked word has its kind
 module _ (at : ℕ → Token) (n : ℕ) (small : at n .kind ≤ 12) where
-  low : (sort kind : ℕ) → sortAt at n ≡ sort → (sort ≡ 0 → ⊥) → cond (eqb sort 13) 6 sort ≡ kind → kindOf (markAt at n) ≡ kind
-  unfolding kindOf
+  low : (sort kind : ℕ) → sortAt at n ≡ sort → (sort ≡ 0 → ⊥) → cond (eqb sort 13) 6 sort ≡ kind → unmarkedKind (markAt at n) ≡ kind
+  unfolding unmarkedKind
   low sort kind e some q = rw (mark-sort at n (λ z. some (sym e ∙ z)), e) q
 
-  pub mark-kind : kindOf (markAt at n) ≡ at n .kind
-  unfolding markAt kindOf sortAt sortOf
+  pub mark-kind : unmarkedKind (markAt at n) ≡ at n .kind
+  unfolding markAt unmarkedKind sortAt nameSort
   mark-kind = go (scopeAt at n .inside) refl (eqb (at n .kind) 6) refl (eqb (at n .kind) 1) refl (eqb (at n .kind) 2) refl
     where
       go : (i : Bool) → scopeAt at n .inside ≡ i → (p : Bool) → eqb (at n .kind) 6 ≡ p → (q : Bool) → eqb (at n .kind) 1 ≡ q → (r : Bool)
-          → eqb (at n .kind) 2 ≡ r → kindOf (markAt at n) ≡ at n .kind
+          → eqb (at n .kind) 2 ≡ r → unmarkedKind (markAt at n) ≡ at n .kind
       go true e true d q f r g = low 13 (at n .kind) (rw (d, e)) (λ z. absurd (omega arith)) (sym (eqb-true _ _ d))
       go false e true d q f r g = low 6 (at n .kind) (rw (d, e)) (λ z. absurd (omega arith)) (sym (eqb-true _ _ d))
       go i e false d true f r g = low 1 (at n .kind) (rw (d, f)) (λ z. absurd (omega arith)) (sym (eqb-true _ _ f))
@@ -71,13 +71,13 @@ module _ (file words : List ℕ) (count n rows : ℕ) (k : Marked file words cou
   pub marked-room : n * 3 < length words
   marked-room = omega (arith, k .spans .table .room, k .spans .table .count-is, k .spans .size)
 
-  kind-back : kindOf (getD words (n * 3) 0) ≡ getD (tableOf file (length words)) (n * 3) 0
+  kind-back : unmarkedKind (getD words (n * 3) 0) ≡ getD (heldTable file (length words)) (n * 3) 0
   kind-back =
-      ap kindOf (k .marked n (omega arith) below)
+      ap unmarkedKind (k .marked n (omega arith) below)
       ∙ mark-kind (tokenAt file) n (kind-below file _ count (k .spans .table) n (omega arith))
-      ∙ sym (held-row file (tableOf file (length words)) count (k .spans .table) n (omega arith) .kind)
+      ∙ sym (held-row file (heldTable file (length words)) count (k .spans .table) n (omega arith) .kind)
 
-  pub unmark-one : Marked file (set words (n * 3) (kindOf (getD words (n * 3) 0))) count (n + 1) rows
+  pub unmark-one : Marked file (set words (n * 3) (unmarkedKind (getD words (n * 3) 0))) count (n + 1) rows
   unmark-one = record {
     spans = spans-set words n _ file count (k .spans);
     before = λ m h. rw length-set (each m h (ltb m n) refl);
@@ -86,13 +86,13 @@ module _ (file words : List ℕ) (count n rows : ℕ) (k : Marked file words cou
   }
     where
       each : (m : ℕ) → m < n + 1 → (t : Bool) → ltb m n ≡ t
-          → getD (set words (n * 3) (kindOf (getD words (n * 3) 0))) (m * 3) 0 ≡ getD (tableOf file (length words)) (m * 3) 0
+          → getD (set words (n * 3) (unmarkedKind (getD words (n * 3) 0))) (m * 3) 0 ≡ getD (heldTable file (length words)) (m * 3) 0
       each m h true d =
           let l : m < n = ltb-true m n d in
           word-other words n _ m (λ q. absurd (omega arith)) ∙ k .before m l
       each m h false d =
           let q : m ≡ n = omega (arith, ltb-false m n d) in
-          subst (λ i. getD (set words (n * 3) (kindOf (getD words (n * 3) 0))) (i * 3) 0 ≡ getD (tableOf file (length words)) (i * 3) 0) (sym q)
+          subst (λ i. getD (set words (n * 3) (unmarkedKind (getD words (n * 3) 0))) (i * 3) 0 ≡ getD (heldTable file (length words)) (i * 3) 0) (sym q)
           (word-here words n _ marked-room ∙ kind-back)
 
 -- every place is a kind word, or a word of a span
@@ -110,14 +110,14 @@ place (suc i) = next i (place i)
     next j (start m) = subst Place (omega arith) (end m)
     next j (end m) = subst Place (omega arith) (kind (suc m))
 
-pub unmarked : (file words : List ℕ) (count rows : ℕ) → Marked file words count rows rows → words ≡ tableOf file (length words)
-unmarked file words count rows k = ext-getD 0 words (tableOf file (length words)) (sym (k .spans .size)) (λ i h. word i (place i))
+pub unmarked : (file words : List ℕ) (count rows : ℕ) → Marked file words count rows rows → words ≡ heldTable file (length words)
+unmarked file words count rows k = ext-getD 0 words (heldTable file (length words)) (sym (k .spans .size)) (λ i h. word i (place i))
   where
-    kinds : (m : ℕ) (t : Bool) → ltb m rows ≡ t → getD words (m * 3) 0 ≡ getD (tableOf file (length words)) (m * 3) 0
+    kinds : (m : ℕ) (t : Bool) → ltb m rows ≡ t → getD words (m * 3) 0 ≡ getD (heldTable file (length words)) (m * 3) 0
     kinds m true e = k .before m (ltb-true m rows e)
     kinds m false e = k .ahead m (ltb-false m rows e)
 
-    word : (i : ℕ) → Place i → getD words i 0 ≡ getD (tableOf file (length words)) i 0
+    word : (i : ℕ) → Place i → getD words i 0 ≡ getD (heldTable file (length words)) i 0
     word i (kind m) = kinds m (ltb m rows) refl
     word i (start m) = k .spans .starts m
     word i (end m) = k .spans .ends m

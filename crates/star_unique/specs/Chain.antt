@@ -11,12 +11,12 @@ use Rattle.star_lex.specs.Split.{tokensOf, placed}
 use Rattle.star_unique.specs.declared.Scope.{Scope}
 
 -- table 1 of a file in so many words
-abbrev pub tableOf : List ℕ → ℕ → List ℕ
-tableOf file words = holding tokenRow (placed (tokensOf file)) words
+abbrev pub heldTable : List ℕ → ℕ → List ℕ
+heldTable file words = holding tokenRow (placed (tokensOf file)) words
 
 -- what a token is compared as: 1 a block code, 2 a frame code, 6 a name of a block, 13 a name of a frame, 0 nothing
-unfoldable pub sortOf : (inside : Bool) (kind : ℕ) → ℕ
-sortOf inside kind = cond (eqb kind 6) (cond inside 13 6) (cond (eqb kind 1) 1 (cond (eqb kind 2) 2 0))
+unfoldable pub nameSort : (inside : Bool) (kind : ℕ) → ℕ
+nameSort inside kind = cond (eqb kind 6) (cond inside 13 6) (cond (eqb kind 1) 1 (cond (eqb kind 2) 2 0))
 
 -- the first row of the scope that a name or code of this sort is unique in
 unfoldable pub floorOf : Scope → (sort : ℕ) → ℕ
@@ -35,7 +35,7 @@ scopeAt at zero = record { block = 0; frame = 0; inside = false }
 scopeAt at (suc n) = passed (scopeAt at n) (at n .kind) (suc n)
 
 unfoldable pub sortAt : (ℕ → Token) → ℕ → ℕ
-sortAt at n = sortOf (scopeAt at n .inside) (at n .kind)
+sortAt at n = nameSort (scopeAt at n .inside) (at n .kind)
 
 -- the bucket of a name or code, below 4096
 unfoldable pub mix : ℕ → List ℕ → ℕ
@@ -59,8 +59,8 @@ unfoldable pub markAt : (ℕ → Token) → ℕ → ℕ
 markAt at n = cond (eqb (sortAt at n) 0) (at n .kind) (sortAt at n + latest (bucketAt at) (bucketAt at n) n * 16)
 
 -- the kind that a marked word stands for
-unfoldable pub kindOf : ℕ → ℕ
-kindOf word = cond (eqb (word % 16) 13) 6 (word % 16)
+unfoldable pub unmarkedKind : ℕ → ℕ
+unmarkedKind word = cond (eqb (word % 16) 13) 6 (word % 16)
 
 -- a token before the n-th, not before the floor, is of this sort and equal to these bytes
 unfoldable pub earlier : (ℕ → Token) → (sort : ℕ) → List ℕ → (floor n : ℕ) → Bool

@@ -5,7 +5,7 @@ use Prim.Native.Nat.{ℕ}
 use lib.ListN.{length}
 use Rattle.star_text.specs.Outcome.{refusalOf, placeOf}
 use Rattle.star_lex.specs.Split.{Split, placed}
-use Rattle.star_lex.specs.Found.{tokensIn, tableOf}
+use Rattle.star_lex.specs.Answer.{tokensIn, tableOf}
 use Rattle.star_unique.specs.Repeat.{nothing, firstRepeat}
 use Rattle.star_unique.specs.declared.Compared.{Compared}
 

@@ -8,7 +8,7 @@ ghost use lib.ListN.{length, getD};
 ghost use Rattle.star_text.specs.Names.{same as Names·same};
 ghost use Rattle.star_unique.specs.Repeat.{nothing, firstRepeat};
 ghost use Rattle.star_lex.specs.Holds.{Holds, fileTokens, tokenAt};
-ghost use Rattle.star_unique.specs.Chain.{sortOf, floorOf, passed, scopeAt, bucketOf, bucketAt, latest, earlier, kindOf, tableOf};
+ghost use Rattle.star_unique.specs.Chain.{nameSort, floorOf, passed, scopeAt, bucketOf, bucketAt, latest, earlier, unmarkedKind, heldTable};
 ghost use Rattle.star_unique.specs.Marked.{Spans, Marked, Heads, Visited};
 ghost use Rattle.star_unique.specs.Compared.{Compares};
 
@@ -32,7 +32,7 @@ struct Scope {
 
 // What a token is compared as: 1 a block code, 2 a frame code, 6 a name of a block, 13 a name of a frame, 0 nothing.
 fn sort_of(inside: bool, kind: u32) -> u32
-    ensures { λ r. ⌜ r ≡ sortOf inside kind ⌝ }
+    ensures { λ r. ⌜ r ≡ nameSort inside kind ⌝ }
 {
     if kind == 6 {
         if inside {
@@ -226,7 +226,7 @@ fn mark(file: &[u8], tokens: &mut [u32], count: usize, heads: &mut [u32]) -> usi
 
 // The kind of a token from its word, marked or not.
 fn kind_of(word: u32) -> u32
-    ensures { λ r. ⌜ r ≡ kindOf word ⌝ }
+    ensures { λ r. ⌜ r ≡ unmarkedKind word ⌝ }
 {
     let low = word % 16;
     if low == 13 {
@@ -239,7 +239,7 @@ fn kind_of(word: u32) -> u32
 fn unmark(file: &[u8], tokens: &mut [u32], count: usize, rows: usize)
     requires { ⌜ Marked (now file) (now tokens) count 0 rows ⌝ }
     requires { ⌜ rows ≤ count ⌝ }
-    ensures { λ _. ⌜ now (tokens .exit) ≡ tableOf (now (file .entry)) (length (now (tokens .entry))) ⌝ }
+    ensures { λ _. ⌜ now (tokens .exit) ≡ heldTable (now (file .entry)) (length (now (tokens .entry))) ⌝ }
 {
     let mut n = 0;
     while n < rows {

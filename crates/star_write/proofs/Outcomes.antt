@@ -18,7 +18,7 @@ use Rattle.star_grammar.specs.Tables.{Rows}
 use Rattle.star_lex.specs.Holds.{fileTokens}
 use Rattle.star_read.specs.Read.{FileRows, Sizes, tokensOnly, readOf}
 use Rattle.star_read.specs.Answer.{readAnswer, readingOf, Tables, Leaves}
-use Rattle.star_read.specs.declared.Reading.{Reading}
+use Rattle.star_read.specs.declared.Answer.{Answer}
 use Rattle.star_read.proofs.Accepted.{read-number, answer-refused, answer-accepted, tokens-file}
 use Rattle.star_write.specs.Write.{Writing, written, plainFits, writeOf}
 use Rattle.star_write.specs.Answer.{bytesOf, outputOf, writeAnswer}
@@ -54,7 +54,7 @@ plain-file : (file : List ℕ) (words : Sizes) (ps : List Placed) (rows : Rows) 
 plain-file file words ps rows e = ap plainOf (tokens-file file words ps rows e)
 
 -- the answer of a written file by reading's counts and the size
-abbrev pub counted : ℕ → Reading → Written
+abbrev pub counted : ℕ → Answer → Written
 counted size r = record {
   refusal = 0;
   place = 0;
@@ -67,7 +67,7 @@ counted size r = record {
 }
 
 -- the writer after reading's answer
-module _ (file : List ℕ) (words : Sizes) (r : Reading) (e : r ≡ readAnswer (readOf file words)) where
+module _ (file : List ℕ) (words : Sizes) (r : Answer) (e : r ≡ readAnswer (readOf file words)) where
   pub refuses-reading : (room : ℕ) → (r .refusal ≡ 0 → ⊥) → writeOf file words room ≡ refused (r .refusal) (r .place)
   unfolding writeOf then
   refuses-reading room f = rw (answer-refused (readOf file words) r e f)

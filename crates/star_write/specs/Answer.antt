@@ -5,7 +5,7 @@ use Prim.Native.Nat.{ℕ, _-_}
 use lib.ListN.{length, replicate}
 use Rattle.star_text.specs.Outcome.{refused, accepted}
 use Rattle.star_read.specs.Answer.{readAnswer, readingOf, Tables, sizes, Leaves}
-use Rattle.star_read.specs.declared.Reading.{Reading}
+use Rattle.star_read.specs.declared.Answer.{Answer}
 use Rattle.star_write.specs.Write.{Writing, writeOf}
 use Rattle.star_write.specs.declared.Written.{Written}
 
@@ -21,7 +21,7 @@ outputOf w room = bytesOf w ++ replicate (room - length (bytesOf w)) 0
 -- refusal and place, the length, and the five row counts
 unfoldable pub writeAnswer : Writing → Written
 writeAnswer w =
-    let r : Reading = readAnswer (readingOf w) in
+    let r : Answer = readAnswer (readingOf w) in
     record {
       refusal = r .refusal;
       place = r .place;

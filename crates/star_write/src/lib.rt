@@ -3,7 +3,7 @@ mod plain;
 mod room;
 mod token;
 
-use star_read::Reading;
+use star_read::Answer;
 ghost use mathlib.Core.Path.{_≡_};
 ghost use mathlib.Core.List.{_++_};
 ghost use Prim.Native.Nat.{_-_, _≤_};
@@ -46,7 +46,7 @@ fn refusing(refusal: u32, place: u32) -> Written
 }
 
 // What writing answers after reading has answered: refusal 1 if the plain form is too long, then 7 if the output is too short.
-fn answer(file: &[u8], tokens: &[u32], reading: Reading, room: usize) -> Written
+fn answer(file: &[u8], tokens: &[u32], reading: Answer, room: usize) -> Written
     requires { ⌜ (reading .refusal ≡ 0 → Holds (now file) (now tokens) (reading .tokens)) ⌝ }
     ensures { λ r. ⌜ ((words : Sizes) → reading ≡ readAnswer (readOf (now (file .entry)) words)
         → r ≡ writeAnswer (writeOf (now (file .entry)) words room)) ⌝ }

@@ -1,7 +1,7 @@
 -- `has_part` meets its contract: a token row has the content of its row of table 1.
 use mathlib.Core.Path.{sym, _∙_}
 use Rattle.star_find.specs.Find.{contentAt}
-use Rattle.star_lex.specs.Found.{isSome}
+use Rattle.star_lex.specs.Answer.{isSome}
 use Rattle.star_find.proofs.Looking.{row-bounds}
 use borrow.Author.Needs.{needs}
 use Rattle.star_find.proofs.has_part.Statement.{statement}

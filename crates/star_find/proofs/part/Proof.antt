@@ -1,7 +1,7 @@
 -- `part` meets its contract: a token row has the content of its row of table 1.
 use mathlib.Core.Path.{sym, _∙_}
 use borrow.Author.Tests.{not-true, not-false}
-use Rattle.star_lex.specs.Found.{isSome}
+use Rattle.star_lex.specs.Answer.{isSome}
 use Rattle.star_lex.specs.Table.{orEmpty, startIn}
 use Rattle.star_rows.proofs.Words.{word-row}
 use Rattle.star_find.specs.Find.{contentAt}

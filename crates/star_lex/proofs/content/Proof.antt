@@ -1,13 +1,12 @@
 -- `content` meets its contract: a row that has a content spans it.
 use mathlib.Core.Path.{_≡_, sym, _∙_, ap}
 use mathlib.Core.Bool.{true}
-use Prim.Native.Nat.{_+_, _*_, _≤_}
+use Prim.Native.Nat.{_+_, _*_}
 use native.Mathlib.Omega.{arith}
-use lib.ListN.{length, getD}
 use borrow.Author.Tests.{not-true, not-false}
 use Rattle.star_rows.specs.Widths.{tokenWidth}
-use Rattle.star_lex.specs.Found.{isSome}
-use Rattle.star_lex.specs.Table.{contentIn, orEmpty, further}
+use Rattle.star_lex.specs.Answer.{isSome}
+use Rattle.star_lex.specs.Table.{contentIn, orEmpty}
 use Rattle.star_lex.proofs.Table.{Spans, content-inside, content-whole, start-some, start-none, empty-none}
 use borrow.Author.Needs.{needs}
 use Rattle.star_lex.proofs.content.Statement.{statement}

@@ -1,6 +1,6 @@
 -- `first_byte` meets its contract: a difference that is not there is 0.
 use mathlib.Core.Path.{sym, _∙_}
-use Prim.Native.Nat.{_+_, _-_, _*_}
+use Prim.Native.Nat.{_+_, _*_}
 use native.Mathlib.Omega.{arith}
 use Rattle.star_rows.specs.Widths.{tokenWidth}
 use Rattle.star_lex.proofs.Table.{first-row, first-none}

@@ -3,7 +3,7 @@ use mathlib.Core.Path.{sym, _∙_, ap}
 use Prim.Native.Nat.{_+_, _*_}
 use native.Mathlib.Omega.{arith}
 use Rattle.star_rows.specs.Widths.{tokenWidth}
-use Rattle.star_lex.specs.Found.{isSome}
+use Rattle.star_lex.specs.Answer.{isSome}
 use Rattle.star_lex.proofs.Table.{part-backward, part-some, content-row, content-none}
 use borrow.Author.Needs.{needs}
 use Rattle.star_lex.proofs.has_content.Statement.{statement}

@@ -11,8 +11,8 @@ use Rattle.star_text.specs.Bytes.{isWhite}
 use Rattle.star_text.proofs.Classes.{white-is, run-line}
 use Rattle.star_lex.specs.Tokens.{opening}
 use Rattle.star_lex.specs.Split.{lexeme, quoted, quotedLexeme}
-use Rattle.star_lex.specs.Found.{foundAt}
-use Rattle.star_lex.specs.declared.Found.the-variants.{Gap}
+use Rattle.star_lex.specs.Answer.{scannedAt}
+use Rattle.star_lex.specs.declared.Scanned.the-variants.{Gap}
 use Rattle.star_lex.proofs.lexeme.Statement.{statement}
 use Rattle.star_lex.proofs.lexeme.Tie as tie
 
@@ -32,7 +32,7 @@ add-t9 : tie.Need-add-t9
 add-t9 c = search needs
 
 returns : tie.Need-returns
-unfolding lexeme foundAt
+unfolding lexeme scannedAt
 returns c = rw ((sym (white (c .before)) ∙ c .if1 .taken), add-zero)
 
 add-run-end : tie.Need-add-run-end
@@ -42,7 +42,7 @@ run-end-requires : tie.Need-run-end-requires
 run-end-requires c κs = search needs
 
 returns-2 : tie.Need-returns-2
-unfolding lexeme foundAt
+unfolding lexeme scannedAt
 returns-2 c =
     let at-shared-slice-known = c .before .before .before .before .before in
     let start = at-shared-slice-known .before in
@@ -57,7 +57,7 @@ text-field-requires : tie.Need-text-field-requires
 text-field-requires c κs = search needs
 
 returns-3 : tie.Need-returns-3
-unfolding lexeme foundAt
+unfolding lexeme scannedAt
 returns-3 c = rw ((sym (white (c .before .before .before .before .before)) ∙ c .before .before .before .before .if1 .left), ne-eqb _ 35 (c .before .before .before .if2 .left), (sym (c .before .before .opens-field .ensures) ∙ c .before .if3 .taken)) (c .text-field .ensures)
 
 quoted-string-requires : tie.Need-quoted-string-requires
@@ -67,12 +67,12 @@ quoted-string-requires c κs =
     (start .pre .0, (refl, (sym (white (c .before .before .before .before .before)) ∙ c .before .before .before .before .if1 .left, start .pre .1)))
 
 returns-4 : tie.Need-returns-4
-unfolding lexeme foundAt
+unfolding lexeme scannedAt
 returns-4 c =
     let at-if1 = c .before .before .before .before .before in
     let start = at-if1 .before .before .before .before in
     rw ((sym (white (c .before .before .before .before .before .before)) ∙ at-if1 .if1 .left), ne-eqb _ 35 (c .before .before .before .before .if2 .left), (sym (c .before .before .before .opens-field .ensures) ∙ c .before .before .if3 .left), eq-eqb _ 39 (c .before .if4 .taken))
-    (c .quoted-string .ensures ∙ ap (λ n. foundAt (start .args .at) (quotedLexeme 9 (quoted n (drop ((start .args .at) + 1) (start .args .file .now))))) (c .before .if4 .taken))
+    (c .quoted-string .ensures ∙ ap (λ n. scannedAt (start .args .at) (quotedLexeme 9 (quoted n (drop ((start .args .at) + 1) (start .args .file .now))))) (c .before .if4 .taken))
 
 quoted-string-requires-2 : tie.Need-quoted-string-requires-2
 unfolding opening
@@ -82,13 +82,13 @@ quoted-string-requires-2 c κs =
     (start .pre .0, (refl, (sym (white (c .before .before .before .before .before .before)) ∙ at-if1 .if1 .left, start .pre .1)))
 
 returns-5 : tie.Need-returns-5
-unfolding lexeme foundAt
+unfolding lexeme scannedAt
 returns-5 c =
     let at-if2 = c .before .before .before .before .before in
     let at-if1 = at-if2 .before in
     let start = at-if1 .before .before .before .before in
     rw ((sym (white (c .before .before .before .before .before .before .before)) ∙ at-if1 .if1 .left), ne-eqb _ 35 (at-if2 .if2 .left), (sym (c .before .before .before .before .opens-field .ensures) ∙ c .before .before .before .if3 .left), ne-eqb _ 39 (c .before .before .if4 .left), eq-eqb _ 34 (c .before .if5 .taken))
-    (c .quoted-string2 .ensures ∙ ap (λ n. foundAt (start .args .at) (quotedLexeme 10 (quoted n (drop ((start .args .at) + 1) (start .args .file .now))))) (c .before .if5 .taken))
+    (c .quoted-string2 .ensures ∙ ap (λ n. scannedAt (start .args .at) (quotedLexeme 10 (quoted n (drop ((start .args .at) + 1) (start .args .file .now))))) (c .before .if5 .taken))
 
 word-at-requires : tie.Need-word-at-requires
 word-at-requires c κs =
@@ -97,7 +97,7 @@ word-at-requires c κs =
     (start .pre .0, (sym (white (c .before .before .before .before .before .before)) ∙ at-if1 .if1 .left, start .pre .1))
 
 returns-6 : tie.Need-returns-6
-unfolding lexeme foundAt
+unfolding lexeme scannedAt
 returns-6 c =
     let at-if2 = c .before .before .before .before .before in
     let at-if1 = at-if2 .before in

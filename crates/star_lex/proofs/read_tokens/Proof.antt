@@ -9,7 +9,7 @@ use Rattle.star_rows.specs.Rows.{clearedFrom}
 use Rattle.star_rows.proofs.Stored.{stored-holding}
 use Rattle.star_lex.specs.Tokens.{tokenRow}
 use Rattle.star_text.specs.Outcome.{refused, then}
-use Rattle.star_lex.specs.Found.{tokensFit, splitAnswer, tableOf}
+use Rattle.star_lex.specs.Answer.{tokensFit, splitAnswer, tableOf}
 use Rattle.star_lex.proofs.Splitting.{row-wide}
 use Rattle.star_lex.proofs.Answers.{tokens-too-long, tokens-refused-byte, tokens-split, answer-refused, answer-accepted, table-full, table-room}
 use Rattle.star_lex.proofs.read_tokens.Statement.{statement}

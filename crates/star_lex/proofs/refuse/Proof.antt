@@ -2,7 +2,7 @@
 use mathlib.Core.Path.{refl, _∙_}
 use borrow.Author.Needs.{needs}
 use Rattle.star_rows.proofs.Clear.{cleared-whole}
-use Rattle.star_lex.specs.Found.{splitAnswer}
+use Rattle.star_lex.specs.Answer.{splitAnswer}
 use Rattle.star_lex.specs.Split.{placed}
 use Rattle.star_text.specs.Outcome.{refusalOf, placeOf}
 use Rattle.star_lex.proofs.refuse.Statement.{statement}

@@ -10,7 +10,7 @@ use Rattle.star_rows.specs.Widths.{tokenWidth}
 use Rattle.star_rows.specs.Rows.{stored}
 use Rattle.star_rows.proofs.Stored.{length-stored}
 use Rattle.star_lex.specs.Tokens.{tokenRow}
-use Rattle.star_lex.specs.Found.{splitAnswer}
+use Rattle.star_lex.specs.Answer.{splitAnswer}
 use Rattle.star_lex.specs.Split.{placed}
 use Rattle.star_text.specs.Outcome.{refusalOf, placeOf}
 use Rattle.star_lex.specs.declared.Tokens.{Tokens}

@@ -6,11 +6,11 @@ use Prim.Native.Nat.{ℕ, _+_}
 use native.Mathlib.Omega.{arith}
 use borrow.Author.Needs.{needs}
 use lib.ListN.{length, getD, drop, length-drop}
-use Rattle.star_text.specs.Bytes.{run, isWhite, belowIn}
+use Rattle.star_text.specs.Bytes.{leading, isWhite, belowIn}
 use Rattle.star_text.proofs.Run.{run-length}
 use Rattle.star_lex.specs.Rules.{today}
 use Rattle.star_lex.specs.Split.{wordFrom, wordLexeme}
-use Rattle.star_lex.specs.Found.{kindOf}
+use Rattle.star_lex.specs.Answer.{wordAnswer}
 use Rattle.star_lex.specs.declared.word.Word.the-variants.{Kind, Ill}
 use Rattle.star_lex.proofs.Lexing.{word-part, word-found, word-ill, word-lead}
 use Rattle.star_lex.proofs.word_at.Statement.{statement}
@@ -46,14 +46,14 @@ add-t14 c =
     let at-run-end = at-word-kind .before .before in
     let at-shared-slice-known = at-run-end .before in
     let start = at-shared-slice-known .before in
-    let w : List ℕ = run (λ x. not (isWhite x)) (drop ((start .args .at) + 1) (start .args .file .now)) in
+    let w : List ℕ = leading (λ x. not (isWhite x)) (drop ((start .args .at) + 1) (start .args .file .now)) in
     let p = word-part (start .pre .1 .1) (start .args .file .now) (start .args .at) (at-run-end .run-end .result) (start .pre .0) (λ i. omega (arith, at-shared-slice-known .shared-slice-known .given i)) (at-run-end .run-end .ensures) in
     let e : at-word-kind .word-kind .result ≡ Kind (c .before .before .kind .given .0 .0) = c .before .before .kind .given .1 in
     omega (
       arith,
       c .lead .ensures,
       word-lead today (length w) (c .before .before .kind .given .0 .0) (getD (start .args .file .now) (start .args .at) 0 ∷ w)
-          (sym e ∙ at-word-kind .word-kind .ensures (length w) ∙ ap (λ l. kindOf (wordLexeme today (length w) l)) (p .1)),
+          (sym e ∙ at-word-kind .word-kind .ensures (length w) ∙ ap (λ l. wordAnswer (wordLexeme today (length w) l)) (p .1)),
       run-length (λ x. not (isWhite x)) (drop ((start .args .at) + 1) (start .args .file .now)),
       length-drop ((start .args .at) + 1) (start .args .file .now),
     )
@@ -68,11 +68,11 @@ returns c =
     let at-run-end = at-word-kind .before .before in
     let at-shared-slice-known = at-run-end .before in
     let start = at-shared-slice-known .before in
-    let w : List ℕ = run (λ x. not (isWhite x)) (drop ((start .args .at) + 1) (start .args .file .now)) in
+    let w : List ℕ = leading (λ x. not (isWhite x)) (drop ((start .args .at) + 1) (start .args .file .now)) in
     let p = word-part (start .pre .1 .1) (start .args .file .now) (start .args .at) (at-run-end .run-end .result) (start .pre .0) (λ i. omega (arith, at-shared-slice-known .shared-slice-known .given i)) (at-run-end .run-end .ensures) in
     let e : at-word-kind .word-kind .result ≡ Kind (c .before .before .kind .given .0 .0) = c .before .before .kind .given .1 in
     rw (c .lead .ensures, p .0) (sym (word-found today (start .args .at) (length w) (c .before .before .kind .given .0 .0) (getD (start .args .file .now) (start .args .at) 0 ∷ w) refl
-    (sym e ∙ at-word-kind .word-kind .ensures (length w) ∙ ap (λ l. kindOf (wordLexeme today (length w) l)) (p .1))))
+    (sym e ∙ at-word-kind .word-kind .ensures (length w) ∙ ap (λ l. wordAnswer (wordLexeme today (length w) l)) (p .1))))
 
 returns-2 : tie.Need-returns-2
 unfolding wordFrom
@@ -80,11 +80,11 @@ returns-2 c =
     let at-run-end = c .before .before .before .before .before in
     let at-shared-slice-known = at-run-end .before in
     let start = at-shared-slice-known .before in
-    let w : List ℕ = run (λ x. not (isWhite x)) (drop ((start .args .at) + 1) (start .args .file .now)) in
+    let w : List ℕ = leading (λ x. not (isWhite x)) (drop ((start .args .at) + 1) (start .args .file .now)) in
     let p = word-part (start .pre .1 .1) (start .args .file .now) (start .args .at) (at-run-end .run-end .result) (start .pre .0) (λ i. omega (arith, at-shared-slice-known .shared-slice-known .given i)) (at-run-end .run-end .ensures) in
     let e : c .before .before .before .word-kind .result ≡ Ill (c .before .number .given .0 .0) = c .before .number .given .1 in
     sym (word-ill today (start .args .at) (length w) (c .before .number .given .0 .0) (getD (start .args .file .now) (start .args .at) 0 ∷ w)
-    (sym e ∙ c .before .before .before .word-kind .ensures (length w) ∙ ap (λ l. kindOf (wordLexeme today (length w) l)) (p .1)))
+    (sym e ∙ c .before .before .before .word-kind .ensures (length w) ∙ ap (λ l. wordAnswer (wordLexeme today (length w) l)) (p .1)))
 
 pub word-at-spec : {M : Type 1} → statement M
 word-at-spec =

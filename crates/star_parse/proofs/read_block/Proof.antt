@@ -4,7 +4,7 @@ use Prim.Native.Nat.{_-_, _≤_}
 use native.Mathlib.Omega.{arith}
 use lib.ListN.{length}
 use Rattle.star_grammar.specs.Machine.{inBlock, setOf, within}
-use Rattle.star_parse.specs.Parsed.{tables}
+use Rattle.star_parse.specs.Parsed.{fourTables}
 use Rattle.star_parse.specs.Reader.{Bounds, Leads}
 use Rattle.star_parse.proofs.Ahead.{ahead-is}
 use Rattle.star_parse.proofs.Going.{comes, stays, onto, over-block, closes}
@@ -15,7 +15,7 @@ abbrev Inv-loop : tie.InvT-loop
 Inv-loop tokens count sets₀ names₀ packets₀ values₀ p₀ block sets names packets values p =
     Bounds count tokens p × (p₀ .at ≤ p .at) × (length sets ≡ length sets₀) × (length names ≡ length names₀) × (length packets ≡ length packets₀)
     × (length values ≡ length values₀)
-    × Leads count tokens (within (inBlock block)) p₀ (tables sets₀ names₀ packets₀ values₀) (within (inBlock block)) p (tables sets names packets values)
+    × Leads count tokens (within (inBlock block)) p₀ (fourTables sets₀ names₀ packets₀ values₀) (within (inBlock block)) p (fourTables sets names packets values)
 
 abbrev μ-loop : tie.MeasureT-loop
 μ-loop tokens count sets₀ names₀ packets₀ values₀ p₀ block sets names packets values p = count - p .at

@@ -6,7 +6,7 @@ use lib.ListN.{length, drop}
 use Rattle.star_lex.specs.Rules.{today}
 use Rattle.star_grammar.specs.Tables.{noRows}
 use Rattle.star_grammar.specs.Machine.{start, run}
-use Rattle.star_parse.specs.Parsed.{kindTokens, tables}
+use Rattle.star_parse.specs.Parsed.{kindTokens, fourTables}
 use Rattle.star_parse.specs.Reader.{Bounds, Comes}
 use Rattle.star_parse.proofs.Ahead.{ahead-is, at-end, refusal-some}
 use Rattle.star_parse.proofs.Counted.{matches-none}
@@ -18,8 +18,8 @@ use Rattle.star_parse.proofs.read_blocks.Tie as tie
 abbrev Inv-loop : tie.InvT-loop
 Inv-loop tokens count sets₀ names₀ packets₀ values₀ p₀ sets names packets values p =
     Bounds count tokens p × (length sets ≡ length sets₀) × (length names ≡ length names₀) × (length packets ≡ length packets₀) × (length values ≡ length values₀)
-    × Comes (kindTokens count tokens) (tables sets₀ names₀ packets₀ values₀) (run today start (kindTokens count tokens) noRows) start p
-    (tables sets names packets values)
+    × Comes (kindTokens count tokens) (fourTables sets₀ names₀ packets₀ values₀) (run today start (kindTokens count tokens) noRows) start p
+    (fourTables sets names packets values)
 
 abbrev μ-loop : tie.MeasureT-loop
 μ-loop tokens count sets₀ names₀ packets₀ values₀ p₀ sets names packets values p = count - p .at

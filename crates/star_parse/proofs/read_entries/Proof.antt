@@ -5,7 +5,7 @@ use Prim.Native.Nat.{ℕ, _-_, _≤_}
 use native.Mathlib.Omega.{arith}
 use lib.ListN.{length}
 use Rattle.star_grammar.specs.Machine.{Where, setOf, within}
-use Rattle.star_parse.specs.Parsed.{tables}
+use Rattle.star_parse.specs.Parsed.{fourTables}
 use Rattle.star_parse.specs.Reader.{Bounds, Leads}
 use Rattle.star_parse.proofs.Ahead.{ahead-is}
 use Rattle.star_parse.proofs.Going.{comes}
@@ -16,7 +16,7 @@ abbrev Inv-loop : tie.InvT-loop
 Inv-loop tokens count set names₀ packets₀ values₀ p₀ names packets values p =
     Bounds count tokens p × (p₀ .at ≤ p .at) × (length names ≡ length names₀) × (length packets ≡ length packets₀) × (length values ≡ length values₀)
     × ((w : Where) (sets : List ℕ) → setOf w ≡ set
-    → Leads count tokens (within w) p₀ (tables sets names₀ packets₀ values₀) (within w) p (tables sets names packets values))
+    → Leads count tokens (within w) p₀ (fourTables sets names₀ packets₀ values₀) (within w) p (fourTables sets names packets values))
 
 abbrev μ-loop : tie.MeasureT-loop
 μ-loop tokens count set names₀ packets₀ values₀ p₀ names packets values p = count - p .at

@@ -8,7 +8,7 @@ use Rattle.star_text.specs.Outcome.{accepted, then}
 use Rattle.star_lex.specs.Rules.{today}
 use Rattle.star_lex.specs.Tokens.{Placed}
 use Rattle.star_lex.specs.Split.{placed, tokensOf}
-use Rattle.star_lex.specs.Found.{tokensIn}
+use Rattle.star_lex.specs.Answer.{tokensIn}
 use Rattle.star_unique.specs.Repeat.{nothing, firstRepeat}
 use Rattle.star_lex.specs.Holds.{fileTokens}
 use Rattle.star_read.specs.Read.{ReadOutcome, Sizes, rowsFit, grammarOf}

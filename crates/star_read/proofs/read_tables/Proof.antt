@@ -7,7 +7,7 @@ use Rattle.star_lex.specs.Rules.{today}
 use Rattle.star_lex.specs.Split.{placed, tokensOf}
 use Rattle.star_grammar.specs.Tables.{noRows}
 use Rattle.star_grammar.specs.Machine.{run, start}
-use Rattle.star_parse.specs.Parsed.{FourTables, Answers, tables as four}
+use Rattle.star_parse.specs.Parsed.{FourTables, Answers, fourTables as four}
 use Rattle.star_lex.specs.Holds.{fileTokens}
 use Rattle.star_read.specs.Read.{rowsFit, grammarOf}
 use Rattle.star_read.specs.Answer.{readAnswer}

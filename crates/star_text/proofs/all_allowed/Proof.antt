@@ -1,5 +1,5 @@
 -- `all_allowed` meets its contract: the bounds hold of the bytes passed.
-use mathlib.Core.Path.{_≡_, ap}
+use mathlib.Core.Path.{_≡_}
 use Prim.Native.Nat.{_≤_, _-_}
 use native.Mathlib.Omega.{arith}
 use borrow.Author.Needs.{needs}

@@ -8,13 +8,13 @@ use borrow.Author.Needs.{needs}
 use borrow.Author.Tests.{not-true, not-false}
 use denote.Ref.{now}
 use lib.ListN.{length, drop}
-use Rattle.star_text.specs.Bytes.{isAllowed, run, firstRefused}
+use Rattle.star_text.specs.Bytes.{isAllowed, leading, firstRefused}
 use Rattle.star_text.proofs.Run.{run-goes, run-stops, run-ends}
 use Rattle.star_text.proofs.first_refused.Statement.{statement}
 use Rattle.star_text.proofs.first_refused.Tie as tie
 
 abbrev Inv-loop : tie.InvT-loop
-Inv-loop file at₀ at = (at ≤ length file) × (at + length (run isAllowed (drop at file)) ≡ length (run isAllowed file))
+Inv-loop file at₀ at = (at ≤ length file) × (at + length (leading isAllowed (drop at file)) ≡ length (leading isAllowed file))
 
 abbrev μ-loop : tie.MeasureT-loop
 μ-loop file at₀ at = length file - at

@@ -6,13 +6,13 @@ use borrow.Author.Needs.{needs}
 use borrow.Author.Tests.{lt-ltb, le-ltb}
 use lib.Dec.{ltb}
 use lib.ListN.{length, drop}
-use Rattle.star_text.specs.Bytes.{run, belowIn}
+use Rattle.star_text.specs.Bytes.{leading, belowIn}
 use Rattle.star_text.proofs.Run.{run-goes, run-stops, run-ends}
 use Rattle.star_text.proofs.run_end.Statement.{statement}
 use Rattle.star_text.proofs.run_end.Tie as tie
 
 abbrev Inv-loop : tie.InvT-loop
-Inv-loop classes file from class at₀ at = at + length (run (belowIn classes class) (drop at file)) ≡ from + length (run (belowIn classes class) (drop from file))
+Inv-loop classes file from class at₀ at = at + length (leading (belowIn classes class) (drop at file)) ≡ from + length (leading (belowIn classes class) (drop from file))
 
 abbrev μ-loop : tie.MeasureT-loop
 μ-loop classes file from class at₀ at = length file - at

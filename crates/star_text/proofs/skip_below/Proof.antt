@@ -4,13 +4,13 @@ use Prim.Native.Nat.{_+_, _-_}
 use native.Mathlib.Omega.{arith}
 use borrow.Author.Tests.{not-false}
 use lib.ListN.{length, drop}
-use Rattle.star_text.specs.Bytes.{run, belowIn}
+use Rattle.star_text.specs.Bytes.{leading, belowIn}
 use Rattle.star_text.proofs.Run.{run-goes-four}
 use Rattle.star_text.proofs.skip_below.Statement.{statement}
 use Rattle.star_text.proofs.skip_below.Tie as tie
 
 abbrev Inv-loop : tie.InvT-loop
-Inv-loop classes file from class at₀ at = at + length (run (belowIn classes class) (drop at file)) ≡ from + length (run (belowIn classes class) (drop from file))
+Inv-loop classes file from class at₀ at = at + length (leading (belowIn classes class) (drop at file)) ≡ from + length (leading (belowIn classes class) (drop from file))
 
 abbrev μ-loop : tie.MeasureT-loop
 μ-loop classes file from class at₀ at = length file - at

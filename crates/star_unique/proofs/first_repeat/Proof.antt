@@ -4,7 +4,7 @@ use native.Mathlib.Omega.{arith}
 use borrow.Author.Needs.{needs}
 use Rattle.star_unique.specs.Repeat.{nothing}
 use Rattle.star_lex.specs.Holds.{fileTokens}
-use Rattle.star_unique.specs.Chain.{tableOf}
+use Rattle.star_unique.specs.Chain.{heldTable}
 use Rattle.star_unique.proofs.Clean.{repeat-within}
 use Rattle.star_lex.proofs.Held.{count-tokens}
 use Rattle.star_unique.proofs.Marking.{heads-start}
@@ -28,7 +28,7 @@ same-length c = search needs
 returns : tie.Need-returns
 returns c =
     let start = c .before .before .before .before .before .before .before .before .before .before .before .before in
-    (c .before .before .before .before .before .before .before .mark .ensures .0, c .before .before .unmark .ensures ∙ ap (tableOf (start .args .file .now)) (c .before .before .before .before .before .before .before .mark .kept .1 .0) ∙ sym (start .pre .rows))
+    (c .before .before .before .before .before .before .before .mark .ensures .0, c .before .before .unmark .ensures ∙ ap (heldTable (start .args .file .now)) (c .before .before .before .before .before .before .before .mark .kept .1 .0) ∙ sym (start .pre .rows))
 
 pub first-repeat-spec : {M : Type 1} → statement M
 first-repeat-spec =

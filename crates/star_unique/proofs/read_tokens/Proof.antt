@@ -6,7 +6,7 @@ use lib.ListN.{length}
 use Rattle.star_lex.specs.Tokens.{Placed}
 use Rattle.star_text.specs.Outcome.{accepted, refusalOf, placeOf}
 use Rattle.star_lex.specs.Split.{placed}
-use Rattle.star_lex.specs.Found.{tokensIn}
+use Rattle.star_lex.specs.Answer.{tokensIn}
 use Rattle.star_lex.proofs.Answers.{answer-refused, in-accepted}
 use Rattle.star_unique.specs.Repeat.{nothing, firstRepeat}
 use Rattle.star_unique.specs.Compared.{comparedOf}

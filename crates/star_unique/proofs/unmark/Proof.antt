@@ -4,7 +4,7 @@ use Prim.Native.Nat.{_-_, _≤_}
 use native.Mathlib.Omega.{arith}
 use borrow.Author.Needs.{needs}
 use lib.ListN.{length, length-set}
-use Rattle.star_unique.specs.Chain.{tableOf}
+use Rattle.star_unique.specs.Chain.{heldTable}
 use Rattle.star_unique.specs.Marked.{Marked}
 use Rattle.star_lex.proofs.Held.{count-small}
 use Rattle.star_unique.proofs.Unmarking.{marked-room, unmark-one, unmarked}
@@ -81,7 +81,7 @@ returns : tie.Need-returns Inv-loop μ-loop
 returns c =
     let at = c .before .loop in
     let end : at .n ≡ c .before .before .before .before .args .rows = omega arith in
-    unmarked _ _ _ _ (rw end at (at .inv .1)) ∙ ap (tableOf (c .before .before .before .before .args .file .now)) (at .inv .2)
+    unmarked _ _ _ _ (rw end at (at .inv .1)) ∙ ap (heldTable (c .before .before .before .before .args .file .now)) (at .inv .2)
 
 pub unmark-spec : {M : Type 1} → statement M
 unmark-spec =

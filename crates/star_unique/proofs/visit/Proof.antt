@@ -5,13 +5,13 @@ use native.Mathlib.Omega.{arith}
 use lib.ListN.{getD}
 use borrow.Author.Needs.{needs}
 use Rattle.star_lex.specs.Holds.{tokenAt}
-use Rattle.star_unique.specs.Chain.{sortOf, sortAt, floorOf}
+use Rattle.star_unique.specs.Chain.{nameSort, sortAt, floorOf}
 use Rattle.star_lex.proofs.Held.{count-small}
 use Rattle.star_unique.proofs.Marking.{sort-here, visit-plain, visit-taken, visit-new, bucket-small, last-here, last-small, sort-small}
 use Rattle.star_unique.proofs.visit.Statement.{statement}
 use Rattle.star_unique.proofs.visit.Tie as tie
 
-sort-is : (c : tie.Start) (sort : ℕ) → sort ≡ sortOf (c .args .scope .inside) (getD (c .args .tokens .now) (c .args .n * 3) 0) → sort ≡ sortAt (tokenAt (c .args .file .now)) (c .args .n)
+sort-is : (c : tie.Start) (sort : ℕ) → sort ≡ nameSort (c .args .scope .inside) (getD (c .args .tokens .now) (c .args .n * 3) 0) → sort ≡ sortAt (tokenAt (c .args .file .now)) (c .args .n)
 sort-is c sort e = e ∙ sort-here _ _ _ _ (c .pre .0) (c .pre .1 .1 .0) _ (c .pre .1 .1 .1)
 
 mul-sort-of : tie.Need-mul-sort-of

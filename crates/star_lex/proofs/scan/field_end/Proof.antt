@@ -7,7 +7,7 @@ use borrow.Author.Needs.{needs}
 use lib.ListN.{length, getD, drop}
 use Rattle.star_text.specs.Bytes.{isTerminate}
 use Rattle.star_lex.specs.Split.{field}
-use Rattle.star_lex.specs.Found.{endOf}
+use Rattle.star_lex.specs.Answer.{endOf}
 use Rattle.star_lex.proofs.Closing.{field-at, field-over}
 use Rattle.star_lex.proofs.scan.field_end.Statement.{statement}
 use Rattle.star_lex.proofs.scan.field_end.Tie as tie

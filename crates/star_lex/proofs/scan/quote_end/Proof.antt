@@ -7,7 +7,7 @@ use lib.ListN.{length, getD, drop}
 use Rattle.star_text.specs.Bytes.{isTerminate}
 use Rattle.star_text.proofs.Classes.{terminate-is}
 use Rattle.star_lex.specs.Split.{quoted}
-use Rattle.star_lex.specs.Found.{endOf}
+use Rattle.star_lex.specs.Answer.{endOf}
 use Rattle.star_lex.proofs.Closing.{quote-at, quote-over}
 use Rattle.star_lex.proofs.scan.quote_end.Statement.{statement}
 use Rattle.star_lex.proofs.scan.quote_end.Tie as tie

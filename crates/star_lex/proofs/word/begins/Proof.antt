@@ -4,7 +4,7 @@ use Prim.Native.Nat.{_≤_, _-_}
 use native.Mathlib.Omega.{arith}
 use lib.ListN.{length, drop}
 use Rattle.star_lex.specs.Split.{after}
-use Rattle.star_lex.specs.Found.{isSome}
+use Rattle.star_lex.specs.Answer.{isSome}
 use Rattle.star_lex.proofs.Words.{after-goes, after-differs, after-ends, after-short}
 use Rattle.star_lex.proofs.word.begins.Statement.{statement}
 use Rattle.star_lex.proofs.word.begins.Tie as tie

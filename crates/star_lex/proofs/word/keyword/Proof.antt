@@ -8,7 +8,7 @@ use lib.ListN.{length, drop, length-drop, drop-of-length-le}
 use Rattle.star_lex.specs.Rules.{today}
 use Rattle.star_lex.specs.Tokens.{dataWord, saveWord, loopWord, stopWord, globalWord}
 use Rattle.star_lex.specs.Split.{blockWord, frameWord}
-use Rattle.star_lex.specs.Found.{kindOf}
+use Rattle.star_lex.specs.Answer.{wordAnswer}
 use Rattle.star_lex.proofs.Words.{after-long, block-some, frame-some, word-data, word-save, word-loop, word-stop, word-global, word-ordinary}
 use Rattle.star_lex.proofs.word.keyword.Statement.{statement}
 use Rattle.star_lex.proofs.word.keyword.Tie as tie
@@ -20,10 +20,10 @@ begins-requires : tie.Need-begins-requires
 begins-requires c κs = search needs
 
 returns : tie.Need-returns
-unfolding dataWord saveWord loopWord stopWord globalWord blockWord kindOf
+unfolding dataWord saveWord loopWord stopWord globalWord blockWord wordAnswer
 returns c =
     let start = c .before .before .before .before .before in
-    λ more. sym (ap kindOf (word-data today more _ (sym (c .before .before .begins .ensures) ∙ c .before .if1 .taken) ∙ ap (blockWord today more) (drop-of-length-le (start .args .word .now) (le-of-eq (c .if2 .taken)))))
+    λ more. sym (ap wordAnswer (word-data today more _ (sym (c .before .before .begins .ensures) ∙ c .before .if1 .taken) ∙ ap (blockWord today more) (drop-of-length-le (start .args .word .now) (le-of-eq (c .if2 .taken)))))
 
 sub-limit : tie.Need-sub-limit
 unfolding dataWord saveWord loopWord stopWord globalWord
@@ -40,7 +40,7 @@ returns-2 c =
     let w = start .args .word .now in
     let l : 5 ≤ length w = after-long dataWord _ (sym (c .before .before .before .begins .ensures) ∙ c .before .before .if1 .taken) in
     c .limit .ensures more (drop 5 w) (length-drop 5 w)
-    ∙ sym (ap kindOf (word-data today more w (sym (c .before .before .before .begins .ensures) ∙ c .before .before .if1 .taken) ∙ block-some today more (drop 5 w) (rw length-drop (omega arith))))
+    ∙ sym (ap wordAnswer (word-data today more w (sym (c .before .before .before .begins .ensures) ∙ c .before .before .if1 .taken) ∙ block-some today more (drop 5 w) (rw length-drop (omega arith))))
 
 slice-aggregate-begins-2 : tie.Need-slice-aggregate-begins-2
 slice-aggregate-begins-2 c = search needs
@@ -49,11 +49,11 @@ begins-requires-2 : tie.Need-begins-requires-2
 begins-requires-2 c κs = search needs
 
 returns-3 : tie.Need-returns-3
-unfolding dataWord saveWord loopWord stopWord globalWord frameWord kindOf
+unfolding dataWord saveWord loopWord stopWord globalWord frameWord wordAnswer
 returns-3 c =
     let at-begins = c .before .before .before .before .before in
     let start = at-begins .before .before .before in
-    λ more. sym (ap kindOf (word-save today more _ (sym (at-begins .begins .ensures) ∙ c .before .before .before .before .if1 .left) (sym (c .before .before .begins2 .ensures) ∙ c .before .if3 .taken) ∙ ap (frameWord today more) (drop-of-length-le (start .args .word .now) (le-of-eq (c .if4 .taken)))))
+    λ more. sym (ap wordAnswer (word-save today more _ (sym (at-begins .begins .ensures) ∙ c .before .before .before .before .if1 .left) (sym (c .before .before .begins2 .ensures) ∙ c .before .if3 .taken) ∙ ap (frameWord today more) (drop-of-length-le (start .args .word .now) (le-of-eq (c .if4 .taken)))))
 
 sub-limit-2 : tie.Need-sub-limit-2
 unfolding dataWord saveWord loopWord stopWord globalWord
@@ -72,7 +72,7 @@ returns-4 c =
     let w = start .args .word .now in
     let l : 5 ≤ length w = after-long saveWord _ (sym (c .before .before .before .begins2 .ensures) ∙ c .before .before .if3 .taken) in
     c .limit2 .ensures more (drop 5 w) (length-drop 5 w)
-    ∙ sym (ap kindOf (word-save today more w (sym (at-begins .begins .ensures) ∙ at-if1 .if1 .left) (sym (c .before .before .before .begins2 .ensures) ∙ c .before .before .if3 .taken) ∙ frame-some today more (drop 5 w) (rw length-drop (omega arith))))
+    ∙ sym (ap wordAnswer (word-save today more w (sym (at-begins .begins .ensures) ∙ at-if1 .if1 .left) (sym (c .before .before .before .begins2 .ensures) ∙ c .before .before .if3 .taken) ∙ frame-some today more (drop 5 w) (rw length-drop (omega arith))))
 
 slice-aggregate-begins-3 : tie.Need-slice-aggregate-begins-3
 slice-aggregate-begins-3 c = search needs
@@ -96,7 +96,7 @@ returns-5 c =
     let start = at-begins .before .before .before in
     λ more.
     let w = start .args .word .now in
-    c .alone .ensures more loopWord (drop 5 w) (length-drop 5 w) ∙ sym (ap kindOf (word-loop today more w (sym (at-begins .begins .ensures) ∙ at-if1 .if1 .left) (sym (at-begins2 .begins2 .ensures) ∙ c .before .before .before .before .if3 .left) (sym (c .before .before .begins3 .ensures) ∙ c .before .if5 .taken)))
+    c .alone .ensures more loopWord (drop 5 w) (length-drop 5 w) ∙ sym (ap wordAnswer (word-loop today more w (sym (at-begins .begins .ensures) ∙ at-if1 .if1 .left) (sym (at-begins2 .begins2 .ensures) ∙ c .before .before .before .before .if3 .left) (sym (c .before .before .begins3 .ensures) ∙ c .before .if5 .taken)))
 
 slice-aggregate-begins-4 : tie.Need-slice-aggregate-begins-4
 slice-aggregate-begins-4 c = search needs
@@ -122,7 +122,7 @@ returns-6 c =
     let start = at-begins .before .before .before in
     λ more.
     let w = start .args .word .now in
-    c .alone2 .ensures more stopWord (drop 5 w) (length-drop 5 w) ∙ sym (ap kindOf (word-stop today more w (sym (at-begins .begins .ensures) ∙ at-if1 .if1 .left) (sym (at-begins2 .begins2 .ensures) ∙ at-if3 .if3 .left) (sym (at-begins3 .begins3 .ensures) ∙ c .before .before .before .before .if5 .left) (sym (c .before .before .begins4 .ensures) ∙ c .before .if6 .taken)))
+    c .alone2 .ensures more stopWord (drop 5 w) (length-drop 5 w) ∙ sym (ap wordAnswer (word-stop today more w (sym (at-begins .begins .ensures) ∙ at-if1 .if1 .left) (sym (at-begins2 .begins2 .ensures) ∙ at-if3 .if3 .left) (sym (at-begins3 .begins3 .ensures) ∙ c .before .before .before .before .if5 .left) (sym (c .before .before .begins4 .ensures) ∙ c .before .if6 .taken)))
 
 slice-aggregate-begins-5 : tie.Need-slice-aggregate-begins-5
 slice-aggregate-begins-5 c = search needs
@@ -150,10 +150,10 @@ returns-7 c =
     let start = at-begins .before .before .before in
     λ more.
     let w = start .args .word .now in
-    c .alone3 .ensures more globalWord (drop 7 w) (length-drop 7 w) ∙ sym (ap kindOf (word-global today more w (sym (at-begins .begins .ensures) ∙ at-if1 .if1 .left) (sym (at-begins2 .begins2 .ensures) ∙ at-if3 .if3 .left) (sym (at-begins3 .begins3 .ensures) ∙ at-if5 .if5 .left) (sym (at-begins4 .begins4 .ensures) ∙ c .before .before .before .before .if6 .left) (sym (c .before .before .begins5 .ensures) ∙ c .before .if7 .taken)))
+    c .alone3 .ensures more globalWord (drop 7 w) (length-drop 7 w) ∙ sym (ap wordAnswer (word-global today more w (sym (at-begins .begins .ensures) ∙ at-if1 .if1 .left) (sym (at-begins2 .begins2 .ensures) ∙ at-if3 .if3 .left) (sym (at-begins3 .begins3 .ensures) ∙ at-if5 .if5 .left) (sym (at-begins4 .begins4 .ensures) ∙ c .before .before .before .before .if6 .left) (sym (c .before .before .begins5 .ensures) ∙ c .before .if7 .taken)))
 
 returns-8 : tie.Need-returns-8
-unfolding dataWord saveWord loopWord stopWord globalWord kindOf
+unfolding dataWord saveWord loopWord stopWord globalWord wordAnswer
 returns-8 c =
     let at-if5 = c .before .before .before .before .before .before in
     let at-begins3 = at-if5 .before in
@@ -162,7 +162,7 @@ returns-8 c =
     let at-if1 = at-begins2 .before .before in
     let at-begins = at-if1 .before in
     let start = at-begins .before .before .before in
-    λ more. sym (ap kindOf (word-ordinary today more _ (record { no-data = sym (at-begins .begins .ensures) ∙ at-if1 .if1 .left; no-save = sym (at-begins2 .begins2 .ensures) ∙ at-if3 .if3 .left; no-loop = sym (at-begins3 .begins3 .ensures) ∙ at-if5 .if5 .left; no-stop = sym (c .before .before .before .before .begins4 .ensures) ∙ c .before .before .before .if6 .left; no-global = sym (c .before .begins5 .ensures) ∙ c .if7 .left }) (start .pre .0) (start .pre .1)))
+    λ more. sym (ap wordAnswer (word-ordinary today more _ (record { no-data = sym (at-begins .begins .ensures) ∙ at-if1 .if1 .left; no-save = sym (at-begins2 .begins2 .ensures) ∙ at-if3 .if3 .left; no-loop = sym (at-begins3 .begins3 .ensures) ∙ at-if5 .if5 .left; no-stop = sym (c .before .before .before .before .begins4 .ensures) ∙ c .before .before .before .if6 .left; no-global = sym (c .before .begins5 .ensures) ∙ c .if7 .left }) (start .pre .0) (start .pre .1)))
 
 pub keyword-spec : {M : Type 1} → statement M
 keyword-spec =

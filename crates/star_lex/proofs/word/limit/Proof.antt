@@ -2,16 +2,16 @@
 use native.Mathlib.Omega.{arith}
 use borrow.Author.Tests.{le-leb, lt-leb}
 use Rattle.star_lex.specs.Split.{limited}
-use Rattle.star_lex.specs.Found.{kindOf}
+use Rattle.star_lex.specs.Answer.{wordAnswer}
 use Rattle.star_lex.proofs.word.limit.Statement.{statement}
 use Rattle.star_lex.proofs.word.limit.Tie as tie
 
 returns : tie.Need-returns
-unfolding limited kindOf
+unfolding limited wordAnswer
 returns c = λ more content e. rw (e, lt-leb (c .before .args .len) 32 (omega arith))
 
 returns-2 : tie.Need-returns-2
-unfolding limited kindOf
+unfolding limited wordAnswer
 returns-2 c = λ more content e. rw (e, le-leb (c .before .args .len) 32 (omega arith))
 
 pub limit-spec : {M : Type 1} → statement M

@@ -5,13 +5,13 @@ use native.Mathlib.Numerals.{add-one}
 use native.Mathlib.Omega.{arith}
 use lib.ListN.{length, take, length-take}
 use lib.Seq.{take-suc, take-all}
-use Rattle.star_list.specs.Put.{Put}
+use Rattle.star_list.specs.Put.{PutWithin}
 use Rattle.star_list.proofs.Putting.{put-none, put-then}
 use Rattle.star_list.proofs.listing.put_bytes.Statement.{statement}
 use Rattle.star_list.proofs.listing.put_bytes.Tie as tie
 
 abbrev Inv-loop : tie.InvT-loop
-Inv-loop out₀ at bytes next₀ i₀ out next i = (i ≤ length bytes) × Put (take i bytes) at out₀ out next × (length out ≡ length out₀)
+Inv-loop out₀ at bytes next₀ i₀ out next i = (i ≤ length bytes) × PutWithin (take i bytes) at out₀ out next × (length out ≡ length out₀)
 
 abbrev μ-loop : tie.MeasureT-loop
 μ-loop out₀ at bytes next₀ i₀ out next i = length bytes - i

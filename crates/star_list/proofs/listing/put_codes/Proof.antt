@@ -8,14 +8,14 @@ use Rattle.star_text.specs.Bytes.{mostBytes}
 use Rattle.star_lex.specs.Holds.{fileTokens}
 use Rattle.star_lex.proofs.Held.{count-small}
 use Rattle.star_list.specs.Listing.{blockCodes, codeLines}
-use Rattle.star_list.specs.Put.{Put}
+use Rattle.star_list.specs.Put.{PutWithin}
 use Rattle.star_list.proofs.Putting.{put-none, put-then}
 use Rattle.star_list.proofs.Lines.{line-length, Next, next, lines-all}
 use Rattle.star_list.proofs.listing.put_codes.Statement.{statement}
 use Rattle.star_list.proofs.listing.put_codes.Tie as tie
 
 abbrev Inv-loop : tie.InvT-loop
-Inv-loop out₀ file tokens count at₀ n₀ out at n = (n ≤ count) × Put (codeLines (take n (fileTokens file))) 0 out₀ out at × (length out ≡ length out₀) × (at ≤ n * (mostBytes + 1))
+Inv-loop out₀ file tokens count at₀ n₀ out at n = (n ≤ count) × PutWithin (codeLines (take n (fileTokens file))) 0 out₀ out at × (length out ≡ length out₀) × (at ≤ n * (mostBytes + 1))
 
 abbrev μ-loop : tie.MeasureT-loop
 μ-loop out₀ file tokens count at₀ n₀ out at n = count - n

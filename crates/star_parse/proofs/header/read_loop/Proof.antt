@@ -6,7 +6,7 @@ use native.Mathlib.Omega.{arith}
 use lib.ListN.{length, getD, set, length-set}
 use Rattle.star_text.specs.Bytes.{mostBytes}
 use Rattle.star_grammar.specs.Machine.{Where, setOf, header}
-use Rattle.star_parse.specs.Parsed.{tables}
+use Rattle.star_parse.specs.Parsed.{fourTables}
 use Rattle.star_parse.specs.Reader.{Ready, Passes}
 use Rattle.star_parse.proofs.Ahead.{ahead-is}
 use Rattle.star_parse.proofs.Headers.{outers, outers-length, outers-more, few-none, few-more, header-in, loop-in}
@@ -20,8 +20,8 @@ Inv-loop tokens count set names₀ packets₀ values₀ p₀ first counts₀ lev
     Ready count tokens p × (p₀ .at ≤ p .at) × (level < 8) × (length counts ≡ 8) × ((i : ℕ) → getD counts i 0 ≤ mostBytes)
     × (length names ≡ length names₀) × (length packets ≡ length packets₀) × (length values ≡ length values₀)
     × ((w : Where) (sets : List ℕ) → setOf w ≡ set
-    → Passes count tokens (header w first [] 0 0) p₀ (tables sets names₀ packets₀ values₀)
-    (header w first (outers level counts) 0 0) p (tables sets names packets values))
+    → Passes count tokens (header w first [] 0 0) p₀ (fourTables sets names₀ packets₀ values₀)
+    (header w first (outers level counts) 0 0) p (fourTables sets names packets values))
 
 abbrev μ-loop : tie.MeasureT-loop
 μ-loop tokens count set names₀ packets₀ values₀ p₀ first counts₀ level₀ names packets values p counts level = 8 - level
@@ -79,9 +79,9 @@ begin c = c .before .before .before .before .before .before .before .before .bef
 -- the names of a level, from the loop's beginning on
 named : (c : tie.After-struct-known2 Inv-loop μ-loop) (w : Where) (sets : List ℕ) → setOf w ≡ begin c .args .set
     → Passes (begin c .args .count) (begin c .args .tokens .now) (header w (headed c .opened .result .names + 1) [] 0 0) (headed c .opened .result)
-    (tables sets (begin c .args .names .now) (begin c .args .packets .now) (begin c .args .values .now))
+    (fourTables sets (begin c .args .names .now) (begin c .args .packets .now) (begin c .args .values .now))
     (header w (headed c .opened .result .names + 1) (outers (turn c .loop .level) (turn c .loop .counts)) (level c .read-names .result .names - turn c .loop .p .names) 0)
-    (level c .read-names .result) (tables sets (level c .read-names .last .1 .1 .1 .1 .1 .0) (turn c .loop .packets) (turn c .loop .values))
+    (level c .read-names .result) (fourTables sets (level c .read-names .last .1 .1 .1 .1 .1 .0) (turn c .loop .packets) (turn c .loop .values))
 named c w sets q before outcome a =
     let l = turn c .loop in
     level c .read-names .ensures .goes w _ _ sets _ _ q (omega (arith, outers-length (l .counts) (l .level) 0 (l .inv .3) (l .inv .2))) before outcome

@@ -9,7 +9,7 @@ use lib.ListN.{length}
 use borrow.Fn.Kinds.{In}
 use borrow.Fn.PlainCycle.{Measures, is, falls, and}
 use Rattle.star_grammar.specs.Machine.{Where, Level}
-use Rattle.star_parse.specs.Parsed.{tables}
+use Rattle.star_parse.specs.Parsed.{fourTables}
 use Rattle.star_parse.specs.Reader.{Bounds, Leads, Around, innerOf, levelOf, atLevel}
 use Rattle.star_parse.specs.declared.packets.LoopState.{LoopState}
 use Rattle.star_parse.proofs.Ahead.{ahead-is}
@@ -74,7 +74,7 @@ abbrev Inv-loop : read-level-lts.InvT-loop
 Inv-loop tokens count s packets₀ values₀ p₀ packets values p =
     Bounds count tokens p × (p₀ .at ≤ p .at) × (length packets ≡ length packets₀) × (length values ≡ length values₀)
     × ((w : Where) (outer : List Level) (sets names : List ℕ) → Around s outer
-    → Leads count tokens (atLevel w outer s) p₀ (tables sets names packets₀ values₀) (atLevel w outer s) p (tables sets names packets values))
+    → Leads count tokens (atLevel w outer s) p₀ (fourTables sets names packets₀ values₀) (atLevel w outer s) p (fourTables sets names packets values))
 
 abbrev μ-loop : read-level-lts.MeasureT-loop
 μ-loop tokens count s packets₀ values₀ p₀ packets values p = count - p .at
@@ -218,9 +218,9 @@ begin t c = c .before .before .before .before .before .before .before .before .b
 inside : (t : ℕ) (c : read-packet-lts.After-struct-known5 (packet-claims t) (read-packet-at t) read-packet.Post) (w : Where) (outer : List Level)
     (sets names : List ℕ) → Around (begin t c .args .s) outer
     → Leads (begin t c .args .count) (begin t c .args .tokens .now) (atLevel w outer (begin t c .args .s)) (begin t c .args .p)
-    (tables sets names (begin t c .args .packets .now) (begin t c .args .values .now))
+    (fourTables sets names (begin t c .args .packets .now) (begin t c .args .values .now))
     (atLevel w (levelOf (begin t c .args .s) (begin t c .args .p .packets + 1) ∷ outer) (step t c .deeper .result)) (level t c .read-level .result)
-    (tables sets names (level t c .read-level .last .1 .1 .1 .1 .0) (level t c .read-level .last .1 .1 .1 .1 .1 .0))
+    (fourTables sets names (level t c .read-level .last .1 .1 .1 .1 .0) (level t c .read-level .last .1 .1 .1 .1 .1 .0))
 inside t c w outer sets names around before outcome a =
     let s = begin t c in
     let h = s .pre .1 .1 .1 .0 in

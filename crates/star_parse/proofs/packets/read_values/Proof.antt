@@ -6,7 +6,7 @@ use native.Mathlib.Omega.{arith}
 use borrow.Author.Needs.{needs}
 use lib.ListN.{length}
 use Rattle.star_grammar.specs.Machine.{Where, Level}
-use Rattle.star_parse.specs.Parsed.{tables}
+use Rattle.star_parse.specs.Parsed.{fourTables}
 use Rattle.star_parse.specs.Reader.{Ready, Passes, innerOf, levelOf, partly}
 use Rattle.star_parse.proofs.Ahead.{ahead-is}
 use Rattle.star_parse.proofs.Going.{comes, over-value, full, not-full}
@@ -17,8 +17,8 @@ abbrev Inv-loop : tie.InvT-loop
 Inv-loop tokens count packet values₀ s₀ p₀ level names first values s p =
     Ready count tokens p × (p₀ .at ≤ p .at) × (0 < s .filled) × (length values ≡ length values₀)
     × ((w : Where) (outer : List Level) (sets names packets : List ℕ)
-    → Passes count tokens (partly w outer (levelOf s₀ packet) (innerOf s₀) (s₀ .filled)) p₀ (tables sets names packets values₀)
-    (partly w outer (levelOf s₀ packet) (innerOf s₀) (s .filled)) p (tables sets names packets values))
+    → Passes count tokens (partly w outer (levelOf s₀ packet) (innerOf s₀) (s₀ .filled)) p₀ (fourTables sets names packets values₀)
+    (partly w outer (levelOf s₀ packet) (innerOf s₀) (s .filled)) p (fourTables sets names packets values))
 
 abbrev μ-loop : tie.MeasureT-loop
 μ-loop tokens count packet values₀ s₀ p₀ level names first values s p = names - s .filled

@@ -1,13 +1,13 @@
 -- `misplaced` meets its contract: the refusal is 12 at `global_` and the number elsewhere, and nothing else changes.
 use mathlib.Core.Path.{refl, sym, ap, _∙_}
-use Rattle.star_parse.specs.Reader.{refusalOf}
+use Rattle.star_parse.specs.Reader.{numberFor}
 use Rattle.star_parse.proofs.Ahead.{refusal-global, refusal-other}
 use Rattle.star_parse.proofs.progress.misplaced.Statement.{statement}
 use Rattle.star_parse.proofs.progress.misplaced.Tie as tie
 
 returns : tie.Need-returns
 returns c = record {
-  refusal = sym (ap (refusalOf _) (c .if1 .taken) ∙ refusal-global _);
+  refusal = sym (ap (numberFor _) (c .if1 .taken) ∙ refusal-global _);
   at = refl;
   loops = refl;
   sets = refl;

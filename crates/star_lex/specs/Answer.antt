@@ -13,8 +13,8 @@ use Rattle.star_lex.specs.Rules.{Rules, today}
 use Rattle.star_lex.specs.Tokens.{Placed, opening, tokenRow}
 use Rattle.star_text.specs.Outcome.{refused, accepted, then, need, refusalOf, placeOf}
 use Rattle.star_lex.specs.Split.{Lexeme, gap, token, faulty, Split, tokensBy, placed}
-use Rattle.star_lex.specs.declared.Found.{Found}
-use Rattle.star_lex.specs.declared.Found.the-variants.{Gap, Token as FoundToken, Fault}
+use Rattle.star_lex.specs.declared.Scanned.{Scanned}
+use Rattle.star_lex.specs.declared.Scanned.the-variants.{Gap, Token as FoundToken, Fault}
 use Rattle.star_lex.specs.declared.Tokens.{Tokens}
 use Rattle.star_lex.specs.declared.word.Word.{Word}
 use Rattle.star_lex.specs.declared.word.Word.the-variants.{Kind, Ill}
@@ -46,12 +46,12 @@ pub record Splits (file before after : List ℕ) (r : Tokens) : Type 0 where
   pub table : after ≡ tableOf (tokensIn file (length before)) (length before)
 
 -- a lexeme at a place: where it ends; of a token its kind, and start and end of its content
-unfoldable pub foundAt : ℕ → Lexeme → Found
-foundAt at (gap more) = Gap (at + 1 + more)
-foundAt at (token more t) =
+unfoldable pub scannedAt : ℕ → Lexeme → Scanned
+scannedAt at (gap more) = Gap (at + 1 + more)
+scannedAt at (token more t) =
     let start : ℕ = at + length (opening (t .kind)) in
     FoundToken (t .kind) start (start + length (t .content)) (at + 1 + more)
-foundAt at (faulty n) = Fault n
+scannedAt at (faulty n) = Fault n
 
 -- a content that begins at a place ends there; where there is none, at the end of the file
 unfoldable pub endOf : (size at : ℕ) → Option (List ℕ) → ℕ
@@ -63,7 +63,7 @@ isSome none = false
 isSome (some c) = true
 
 -- the kind of a word's token, or its refusal
-unfoldable pub kindOf : Lexeme → Word
-kindOf (gap more) = Ill 0
-kindOf (token more t) = Kind (t .kind)
-kindOf (faulty n) = Ill n
+unfoldable pub wordAnswer : Lexeme → Word
+wordAnswer (gap more) = Ill 0
+wordAnswer (token more t) = Kind (t .kind)
+wordAnswer (faulty n) = Ill n
