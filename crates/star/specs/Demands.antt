@@ -1,4 +1,4 @@
--- The demands on the library, whole: each is the product of its sentences, which the crates below state. What is said of reading for all usable
+-- The demands on the library, whole: each is the product of its sentences, which the crates below state. Believed; proofs/Demands.antt proves them. What is said of reading for all usable
 -- rules is said of the library since today's are usable.
 use Rattle.star_lex.specs.Rules.{today}
 use Rattle.star_read.specs.Demands.{Usable, AcceptedExactly, OneReading, RowsOfReading, PlaceOfRefusal, RefusalNumber, NumbersExclude, ReadingSettled, OneOutcome, ReadAnswers}

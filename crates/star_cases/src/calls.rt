@@ -6,12 +6,23 @@ use star_show::kept;
 use star_show::print;
 use star_show::words;
 
+// Reads a file and prints what came out.
+pub fn read(file: &[u8], kept: &mut [u32]) {
+    print::bar();
+    kept::show(file, kept);
+}
+
 // Writes the plain form of a file into so many bytes and prints what came out.
 pub fn write(file: &[u8], size: u32) {
     let mut out = words::room();
     let written = plain::write(file, words::lend(&mut out, size));
     print::bar();
-    plain::print_answer(written, words::first(&out, size));
+    print::form(
+        written.refusal,
+        written.place,
+        written.length,
+        words::first(&out, size),
+    );
 }
 
 // The five counts, as lookup takes them.

@@ -28,9 +28,8 @@ fn write(file: &[u8], kept: &[u32], refusal: u32) {
 // Reads a file, and writes the plain form of an accepted one.
 fn read_and_write(file: &[u8]) {
     let mut kept = kept::room();
-    let answer = kept::read(file, &mut kept);
-    kept::print_answer(answer, &kept);
-    write(file, &kept, answer.refusal);
+    let refusal = kept::show(file, &mut kept);
+    write(file, &kept, refusal);
 }
 
 // Runs a file through the split, reading and writing.
@@ -58,7 +57,7 @@ fn run_on(line: &[u8], given: &[u8], file: &[u8], kept: &mut [u32]) {
     match words::byte(line, 0) {
         b'c' => run_file(file),
         b'1' => run_long(words::number(line)),
-        b'r' => kept::show(file, kept),
+        b'r' => calls::read(file, kept),
         b'w' => calls::write(file, words::number(given)),
         b's' => kept::set(given, kept),
         b'l' => calls::look(given, file, kept),

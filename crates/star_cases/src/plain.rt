@@ -5,13 +5,6 @@ use star_show::table::FILLED;
 use star_show::words;
 use star_write::Written;
 
-// Prints refusal, place and length, and the plain form.
-pub fn print_answer(written: Written, out: &[u8]) {
-    print::three(written.refusal, written.place, written.length);
-    print::bar();
-    print::escaped(out, written.length as usize);
-}
-
 // Writes the plain form of a file, with tables that have room.
 pub fn write(file: &[u8], out: &mut [u8]) -> Written {
     let mut tokens = [FILLED; 1024];
@@ -50,7 +43,7 @@ fn repeat(file: &[u8], kept: &[u32], form: &[u8], refusal: u32) {
 pub fn run(file: &[u8], kept: &[u32]) {
     let mut out = words::room();
     let written = write(file, &mut out);
-    print_answer(written, &out);
+    print::form(written.refusal, written.place, written.length, &out);
     repeat(
         file,
         kept,

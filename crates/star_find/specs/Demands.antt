@@ -1,4 +1,4 @@
--- What is demanded of lookup in the tables and counts as the reader left them: statements alone, over the reading.
+-- What is demanded of lookup in the tables and counts as the reader left them: statements alone, over the reading. Believed; star's Demands cites it.
 use mathlib.Core.Path.{_≡_}
 use mathlib.Core.Bool.{cond}
 use mathlib.Core.Logic.{_⊎_, _↔_}

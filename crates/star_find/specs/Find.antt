@@ -1,10 +1,11 @@
--- Lookup in tables that are not trusted: specification 10 and 11.
+-- Lookup in tables that are not trusted: specification 10 and 11. Believed; the contracts of every lookup and the demands cite it.
 use mathlib.Core.Bool.{Bool, true, false, cond, not, _&&_, _||_}
 use mathlib.Core.List.{List}
 use mathlib.Core.Option.{Option, none, some}
 use Prim.Native.Nat.{ℕ, zero, suc, _-_}
 use lib.Dec.{eqb, leb}
 use lib.ListN.{length}
+use Rattle.star_rows.specs.Widths.{tokenWidth, setWidth, nameWidth, packetWidth, valueWidth}
 use Rattle.star_rows.specs.Rows.{wordOf, hasRoom}
 use Rattle.star_lex.specs.Answer.{isSome}
 use Rattle.star_lex.specs.Table.{contentIn, orEmpty}
@@ -32,9 +33,9 @@ lent file tokens sets names packets values = record { file = file; tokens = toke
 -- no count is larger than its table holds
 unfoldable pub fits : (tokens sets names packets values : List ℕ) → Counts → Bool
 fits tokens sets names packets values c =
-    hasRoom (c .tokens) 3 (length tokens)
-    && (hasRoom (c .sets) 3 (length sets)
-    && (hasRoom (c .names) 4 (length names) && (hasRoom (c .packets) 3 (length packets) && hasRoom (c .values) 3 (length values))))
+    hasRoom (c .tokens) tokenWidth (length tokens)
+    && (hasRoom (c .sets) setWidth (length sets)
+    && (hasRoom (c .names) nameWidth (length names) && (hasRoom (c .packets) packetWidth (length packets) && hasRoom (c .values) valueWidth (length values))))
 
 -- a row number that is neither 0 nor above its count
 unfoldable pub isRow : (count row : ℕ) → Bool
@@ -80,15 +81,15 @@ rowThere l c count row = countsFit l c && isRow count row
 
 -- names of a set by name
 unfoldable pub findName : Lent → Counts → (set : ℕ) → (name : List ℕ) → Found
-findName l c set name = cond (rowThere l c (c .sets) set) (look l c (l .names) 4 set false 0 name (c .names)) (refused 14)
+findName l c set name = cond (rowThere l c (c .sets) set) (look l c (l .names) nameWidth set false 0 name (c .names)) (refused 14)
 
 -- blocks by code
 unfoldable pub findBlock : Lent → Counts → (code : List ℕ) → Found
-findBlock l c code = cond (countsFit l c) (look l c (l .sets) 3 1 false 0 code (c .sets)) (refused 14)
+findBlock l c code = cond (countsFit l c) (look l c (l .sets) setWidth 1 false 0 code (c .sets)) (refused 14)
 
 -- frames of a set by code
 unfoldable pub findFrame : Lent → Counts → (set : ℕ) → (code : List ℕ) → Found
-findFrame l c set code = cond (rowThere l c (c .sets) set) (look l c (l .sets) 3 2 true set code (c .sets)) (refused 14)
+findFrame l c set code = cond (rowThere l c (c .sets) set) (look l c (l .sets) setWidth 2 true set code (c .sets)) (refused 14)
 
 -- the row of the k-th value of a name row, k from 1, among so many rows from this one on; 0 where there are fewer than k or k is 0
 unfoldable pub kth : (isOne : ℕ → Bool) → (k left row : ℕ) → ℕ
@@ -102,18 +103,18 @@ missing number = record { refusal = number; packet = 0; token = 0 }
 -- the packet and the token row of a value row: 13 where there is none, then 14 for its token row or span
 unfoldable pub located : Lent → Counts → (row : ℕ) → Located
 located l c row =
-    let token : ℕ = wordOf (l .values) 3 row 2 in
+    let token : ℕ = wordOf (l .values) valueWidth row 2 in
     cond (eqb row 0) (missing 13)
-    (cond (isSome (contentAt (l .file) (l .tokens) (c .tokens) token)) (record { refusal = 0; packet = wordOf (l .values) 3 row 1; token = token }) (missing 14))
+    (cond (isSome (contentAt (l .file) (l .tokens) (c .tokens) token)) (record { refusal = 0; packet = wordOf (l .values) valueWidth row 1; token = token }) (missing 14))
 
 -- the value that is asked for: 14 for counts and name row comes first
 unfoldable pub locate : Lent → Counts → (name k : ℕ) → Located
 locate l c name k =
-    cond (rowThere l c (c .names) name) (located l c (kth (λ row. eqb (wordOf (l .values) 3 row 0) name) k (c .values) 1)) (missing 14)
+    cond (rowThere l c (c .names) name) (located l c (kth (λ row. eqb (wordOf (l .values) valueWidth row 0) name) k (c .values) 1)) (missing 14)
 
 -- the kind and the packet of a value, as the tables hold them; a refused value has 0 and 0
 unfoldable pub valueOf : Lent → Located → Value
-valueOf l f = record { refusal = f .refusal; kind = wordOf (l .tokens) 3 (f .token) 0; packet = f .packet }
+valueOf l f = record { refusal = f .refusal; kind = wordOf (l .tokens) tokenWidth (f .token) 0; packet = f .packet }
 
 unfoldable pub valueAt : Lent → Counts → (name k : ℕ) → Value
 valueAt l c name k = valueOf l (locate l c name k)
@@ -124,7 +125,7 @@ valuePart l c name k = orEmpty (contentAt (l .file) (l .tokens) (c .tokens) (loc
 
 -- where the part of a value lies in the file; a refused value has 0 and 0
 unfoldable pub spanAt : (tokens : List ℕ) → (token : ℕ) → Span
-spanAt tokens token = record { start = wordOf tokens 3 token 1; end = wordOf tokens 3 token 2 }
+spanAt tokens token = record { start = wordOf tokens tokenWidth token 1; end = wordOf tokens tokenWidth token 2 }
 
 unfoldable pub valueSpan : Lent → Counts → (name k : ℕ) → Span
 valueSpan l c name k = spanAt (l .tokens) (locate l c name k .token)

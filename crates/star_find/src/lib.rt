@@ -4,6 +4,7 @@ ghost use mathlib.Core.Bool.{cond, _&&_};
 ghost use Prim.Native.Nat.{_-_};
 ghost use lib.Dec.{eqb};
 ghost use denote.Ref.{ptr};
+ghost use Rattle.star_rows.specs.Widths.{tokenWidth, valueWidth};
 ghost use Rattle.star_rows.specs.Rows.{wordOf};
 ghost use Rattle.star_lex.specs.Answer.{isSome};
 ghost use Rattle.star_lex.specs.Table.{orEmpty, further};
@@ -75,19 +76,19 @@ fn counts_fit(
 ) -> bool
     ensures { λ r. ⌜ r ≡ fits (now (tokens .entry)) (now (sets .entry)) (now (names .entry)) (now (packets .entry)) (now (values .entry)) counts ⌝ }
 {
-    if !star_rows::fits(counts.tokens, 3, tokens.len()) {
+    if !star_rows::fits(counts.tokens, star_rows::TOKEN_WIDTH, tokens.len()) {
         return false;
     }
-    if !star_rows::fits(counts.sets, 3, sets.len()) {
+    if !star_rows::fits(counts.sets, star_rows::SET_WIDTH, sets.len()) {
         return false;
     }
-    if !star_rows::fits(counts.names, 4, names.len()) {
+    if !star_rows::fits(counts.names, star_rows::NAME_WIDTH, names.len()) {
         return false;
     }
-    if !star_rows::fits(counts.packets, 3, packets.len()) {
+    if !star_rows::fits(counts.packets, star_rows::PACKET_WIDTH, packets.len()) {
         return false;
     }
-    star_rows::fits(counts.values, 3, values.len())
+    star_rows::fits(counts.values, star_rows::VALUE_WIDTH, values.len())
 }
 
 // Whether a row number is neither 0 nor above its count.
@@ -134,7 +135,7 @@ fn has_part(file: &[u8], tokens: &[u32], count: u32, row: u32) -> bool
 fn part<'a, 'b>(file: &'a [u8], tokens: &'b [u32], count: u32, row: u32) -> &'a [u8]
     ensures { λ r. ⌜ now r ≡ orEmpty (contentAt (now (file .entry)) (now (tokens .entry)) count row) ⌝ }
     ensures { λ r. ⌜ ptr r ≡ further (ptr (file .entry)) (cond (isSome (contentAt (now (file .entry)) (now (tokens .entry)) count row))
-        (wordOf (now (tokens .entry)) 3 row 1) 0) ⌝ }
+        (wordOf (now (tokens .entry)) tokenWidth row 1) 0) ⌝ }
 {
     if !is_row(count, row) {
         return &file[0..0];
@@ -252,7 +253,7 @@ pub fn find_block(
 {
     if counts_fit(tokens, sets, names, packets, values, counts) {
         let wanted = Wanted {
-            width: 3,
+            width: star_rows::SET_WIDTH,
             first: 1,
             by_parent: false,
             parent: 0,
@@ -293,7 +294,7 @@ pub fn find_frame(
         set,
     ) {
         let wanted = Wanted {
-            width: 3,
+            width: star_rows::SET_WIDTH,
             first: 2,
             by_parent: true,
             parent: set,
@@ -334,7 +335,7 @@ pub fn find_name(
         set,
     ) {
         let wanted = Wanted {
-            width: 4,
+            width: star_rows::NAME_WIDTH,
             first: set,
             by_parent: false,
             parent: 0,
@@ -358,9 +359,9 @@ pub fn find_name(
 
 // Whether a row is the value that is asked for: of this name row, with none left before it.
 fn is_last(values: &[u32], row: u32, name: u32, left: u32) -> bool
-    ensures { λ r. ⌜ r ≡ (eqb (wordOf (now (values .entry)) 3 row 0) name && eqb left 1) ⌝ }
+    ensures { λ r. ⌜ r ≡ (eqb (wordOf (now (values .entry)) valueWidth row 0) name && eqb left 1) ⌝ }
 {
-    if star_rows::word(values, 3, row, 0) == name {
+    if star_rows::word(values, star_rows::VALUE_WIDTH, row, 0) == name {
         left == 1
     } else {
         false
@@ -369,9 +370,9 @@ fn is_last(values: &[u32], row: u32, name: u32, left: u32) -> bool
 
 // How many are left after a row.
 fn left_after(values: &[u32], row: u32, name: u32, left: u32) -> u32
-    ensures { λ r. ⌜ r ≡ cond (eqb (wordOf (now (values .entry)) 3 row 0) name) (left - 1) left ⌝ }
+    ensures { λ r. ⌜ r ≡ cond (eqb (wordOf (now (values .entry)) valueWidth row 0) name) (left - 1) left ⌝ }
 {
-    if star_rows::word(values, 3, row, 0) == name {
+    if star_rows::word(values, star_rows::VALUE_WIDTH, row, 0) == name {
         if left == 0 { 0 } else { left - 1 }
     } else {
         left
@@ -380,7 +381,7 @@ fn left_after(values: &[u32], row: u32, name: u32, left: u32) -> u32
 
 // The row of the k-th value of a name row, or 0.
 fn value_row(values: &[u32], rows: u32, name: u32, k: u32) -> u32
-    ensures { λ r. ⌜ r ≡ kth (λ row. eqb (wordOf (now (values .entry)) 3 row 0) name) k rows 1 ⌝ }
+    ensures { λ r. ⌜ r ≡ kth (λ row. eqb (wordOf (now (values .entry)) valueWidth row 0) name) k rows 1 ⌝ }
 {
     let mut i: u32 = 0;
     let mut left = k;
@@ -434,11 +435,11 @@ fn locate(
             token: 0,
         };
     }
-    let token = star_rows::word(values, 3, row, 2);
+    let token = star_rows::word(values, star_rows::VALUE_WIDTH, row, 2);
     if has_part(file, tokens, counts.tokens, token) {
         Located {
             refusal: 0,
-            packet: star_rows::word(values, 3, row, 1),
+            packet: star_rows::word(values, star_rows::VALUE_WIDTH, row, 1),
             token,
         }
     } else {
@@ -468,7 +469,7 @@ pub fn value_at(
     let found = locate(file, tokens, sets, names, packets, values, counts, name, k);
     Value {
         refusal: found.refusal,
-        kind: star_rows::word(tokens, 3, found.token, 0),
+        kind: star_rows::word(tokens, star_rows::TOKEN_WIDTH, found.token, 0),
         packet: found.packet,
     }
 }
@@ -511,7 +512,7 @@ pub fn value_span(
 {
     let found = locate(file, tokens, sets, names, packets, values, counts, name, k);
     Span {
-        start: star_rows::word(tokens, 3, found.token, 1) as usize,
-        end: star_rows::word(tokens, 3, found.token, 2) as usize,
+        start: star_rows::word(tokens, star_rows::TOKEN_WIDTH, found.token, 1) as usize,
+        end: star_rows::word(tokens, star_rows::TOKEN_WIDTH, found.token, 2) as usize,
     }
 }

@@ -187,10 +187,6 @@ module _ (rules : Rules) where
       filling-rest (l .names) (suc f) (l .names - suc f) inner (Levels rules w outer (l .names) inner) (replicate (length outer) stop ++ setEnding w)
       (omega (arith, h .room)) (levels-rest w outer (l .names) inner)
 
-  -- and a run accepts it
-  pub completion-good : (st : State) (x : Token) (r : Rows) → Sane rules st → IsName x → Good (run rules st (completion st x) r)
-  completion-good st x r h n = accepts rules st (completion st x) r h (completion-rest st x h n)
-
 -- what a walk from the start has read begins a whole file
 pub rest-alive : (rules : Rules) → 1 ≤ rules .levels → (p : List Token) → Each Fixed p → (st : State) (r : Rows) → walk rules start p noRows ≡ go st r
     → (x : Token) → IsName x → (f : File) × (fileYield f ≡ p ++ completion st x) × FileBy rules f

@@ -1,4 +1,4 @@
--- The reader's states and steps over sorts of tokens. An aid of the proofs: what is accepted and what the tables hold is said by trees.
+-- The reader's states and steps over sorts of tokens. For contracts: star_parse's and star_read's. An aid: what is accepted and what the tables hold is said by trees, and no demand cites the machine.
 use mathlib.Core.Bool.{cond, _&&_}
 use mathlib.Core.List.{List, [], _∷_, reverseAux}
 use Prim.Native.Nat.{ℕ, zero, suc, _+_}

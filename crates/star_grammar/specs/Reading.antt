@@ -1,4 +1,4 @@
--- The reading of a row of tokens: specification 5 and 6.
+-- The reading of a row of tokens: specification 5 and 6. Believed; the demands on reading and lookup cite it.
 use mathlib.Core.Path.{_≡_}
 use mathlib.Core.List.{List, [], _∷_, _++_, map, flatMap, List·Memᴰ}
 use Prim.Native.Nat.{ℕ}

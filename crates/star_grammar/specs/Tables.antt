@@ -1,4 +1,4 @@
--- The rows of tables 2 to 5 of a tree: specification 7. Rows count from 1, so a row's number is one more than the rows before it.
+-- The rows of tables 2 to 5 of a tree: specification 7. Rows count from 1, so a row's number is one more than the rows before it. Believed; the demands, what reading leaves and the machine cite it.
 use mathlib.Core.List.{List, [], _∷_, _++_, map}
 use Prim.Native.Nat.{ℕ, zero, suc, _+_}
 use lib.ListN.{length}

@@ -1,4 +1,4 @@
--- The grammar, specification 4, as trees and the tokens that they yield. No parser stands here.
+-- The grammar, specification 4, as trees and the tokens that they yield. No parser stands here. Believed; readings, rows and the demands cite it.
 --
 --   file   ::= block*
 --   block  ::= data_CODE ( item | loop | frame )*

@@ -11,7 +11,8 @@ use borrow.Author.Tests.{not-true, not-false}
 use lib.Dec.{eqb}
 use lib.ListN.{length, getD, drop, drop-of-length-le}
 use lib.Seq.{drop-cons}
-use Rattle.star_text.specs.Bytes.{isTerminate, isWhite, Classes, belowIn, leading}
+use Rattle.star_text.specs.Bytes.{isTerminate, isWhite, leading}
+use Rattle.star_text.specs.Classes.{Classes, belowIn}
 use Rattle.star_text.proofs.Classes.{below-terminate}
 use Rattle.star_text.proofs.Run.{run-keeps, run-fails}
 use Rattle.star_lex.specs.Split.{quoted, field, starts, whiteNext}

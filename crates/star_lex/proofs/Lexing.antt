@@ -11,7 +11,8 @@ use native.Mathlib.Omega.{arith}
 use lib.Dec.{leb}
 use lib.ListN.{length, getD, take, drop, length-append, length-drop}
 use lib.Seq.{drop-cons, drop-drop, getD-drop}
-use Rattle.star_text.specs.Bytes.{isWhite, Classes, belowIn, leading}
+use Rattle.star_text.specs.Bytes.{isWhite, leading}
+use Rattle.star_text.specs.Classes.{Classes, belowIn}
 use Rattle.star_text.proofs.Classes.{run-word}
 use Rattle.star_text.proofs.Run.{run-take}
 use Rattle.star_lex.specs.Rules.{Rules}

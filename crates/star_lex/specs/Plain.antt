@@ -1,4 +1,4 @@
--- The plain form of a row of tokens: specification 12.1 to 12.3.
+-- The plain form of a row of tokens: specification 12.1 to 12.3. Believed; `writeOf` and the known cases cite it.
 use mathlib.Core.Bool.{cond, _&&_}
 use mathlib.Core.List.{List, [], _∷_, _++_, flatMap}
 use Prim.Native.Nat.{ℕ}

@@ -1,4 +1,4 @@
--- Tokens: specification 3.7, 3.13 and 7.2.
+-- Tokens: specification 3.7, 3.13 and 7.2. Believed; all that speaks of tokens cites it.
 use mathlib.Core.Bool.{cond}
 use mathlib.Core.List.{List, [], _∷_}
 use Prim.Native.Nat.{ℕ, _+_}

@@ -4,7 +4,7 @@ ghost use mathlib.Core.Bool.{_&&_};
 ghost use Prim.Native.Nat.{_+_, _<_};
 ghost use lib.Dec.{eqb};
 ghost use lib.ListN.{length, getD, drop};
-ghost use Rattle.star_text.specs.Bytes.{Classes};
+ghost use Rattle.star_text.specs.Classes.{Classes};
 ghost use Rattle.star_lex.specs.Split.{quoted, field, starts, whiteNext};
 ghost use Rattle.star_lex.specs.Answer.{endOf};
 ghost use Rattle.star_lex.specs.LineEnd.{LineEnd};

@@ -1,4 +1,4 @@
--- Numbers as the program prints them.
+-- Numbers as the program prints them. Believed; Listing cites it.
 use mathlib.Core.Path.{_≡_}
 use mathlib.Core.Bool.{cond}
 use mathlib.Core.List.{List, [], _∷_, _++_}

@@ -1,4 +1,4 @@
--- What the program prints for an input: specification 13.
+-- What the program prints for an input: specification 13. Believed; the contract of `listing` cites it.
 use mathlib.Core.Bool.{cond}
 use mathlib.Core.List.{List, [], _∷_, _++_, map, flatMap}
 use Prim.Native.Nat.{ℕ}

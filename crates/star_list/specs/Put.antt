@@ -1,4 +1,4 @@
--- What the routines that make the text answer and leave, in terms of the bytes that they put.
+-- What the routines that make the text answer and leave, in terms of the bytes that they put. For contracts of star_list's inner functions.
 use mathlib.Core.Path.{_≡_}
 use mathlib.Core.Bool.{cond}
 use mathlib.Core.List.{List, []}

@@ -11,6 +11,9 @@ ghost use Rattle.star_list.specs.Decimal.{decimal};
 ghost use Rattle.star_list.specs.Listing.{codeLines, refusedLine, countsLine, textOf, listingOf};
 ghost use Rattle.star_list.specs.Put.{PutWithin, codeLine};
 
+// The words of a row of table 1.
+const WIDTH: usize = star_rows::TOKEN_WIDTH as usize;
+
 // Puts a byte at a place, if it is in the room, and answers the next place. The routines below are called by proved layers only, whose places are
 // far below the largest number.
 fn put_byte(out: &mut [u8], at: usize, byte: u8) -> usize
@@ -91,7 +94,7 @@ fn put_codes(out: &mut [u8], file: &[u8], tokens: &[u32], count: usize) -> usize
     let mut at = 0;
     let mut n = 0;
     while n < count {
-        let kind = tokens[n * 3];
+        let kind = tokens[n * WIDTH];
         let content = star_lex::content(file, tokens, n);
         at = put_code(out, at, kind, content);
         n += 1;

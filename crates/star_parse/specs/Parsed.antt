@@ -1,4 +1,4 @@
--- What reading the rows of tables 2 to 5 from the kinds of table 1 answers: what a run of the machine over those kinds gives.
+-- What reading the rows of tables 2 to 5 from the kinds of table 1 answers: what a run of the machine over those kinds gives. For the contract of `read_rows`.
 use mathlib.Core.Path.{_≡_}
 use mathlib.Core.Bool.{Bool, cond, _&&_}
 use mathlib.Core.List.{List, [], _∷_}

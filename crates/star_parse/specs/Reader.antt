@@ -1,4 +1,4 @@
--- What the reader's own functions say of each other: how far they have come in a run of the machine. An aid of the proofs.
+-- What the reader's own functions say of each other: how far they have come in a run of the machine. For contracts of star_parse's inner functions.
 use mathlib.Core.Path.{_≡_}
 use mathlib.Core.Bool.{cond}
 use mathlib.Core.List.{List, [], _∷_, reverseAux}
@@ -8,6 +8,7 @@ use lib.ListN.{length, getD, take, drop}
 use Rattle.star_text.specs.Bytes.{mostBytes}
 use Rattle.star_lex.specs.Rules.{today}
 use Rattle.star_lex.specs.Tokens.{Token}
+use Rattle.star_rows.specs.Widths.{tokenWidth}
 use Rattle.star_rows.specs.Rows.{putRow}
 use Rattle.star_grammar.specs.Tables.{Rows}
 use Rattle.star_grammar.specs.Machine.{Sort, sortOf, Where, Level, parentOf, State, body, filled, Run, bad, good, run}
@@ -103,7 +104,7 @@ pub record CountRoom (p : Progress) : Type 0 where
 
 -- the token table has its rows, and no count is larger than the tokens passed
 pub record Bounds (count : ℕ) (tokens : List ℕ) (p : Progress) : Type 0 where
-  pub rows : count * 3 ≤ length tokens
+  pub rows : count * tokenWidth ≤ length tokens
   pub few : count ≤ mostBytes
   pub at : p .at ≤ count
   pub loops : p .loops ≤ p .at

@@ -9,12 +9,16 @@ ghost use mathlib.Core.Bool.{false};
 ghost use mathlib.Core.List.{List};
 ghost use Prim.Native.Nat.{ℕ, _+_, _*_, _≤_};
 ghost use lib.ListN.{length};
+ghost use Rattle.star_rows.specs.Widths.{tokenWidth};
 ghost use Rattle.star_text.specs.Bytes.{mostBytes};
 ghost use Rattle.star_lex.specs.Rules.{today};
 ghost use Rattle.star_grammar.specs.Tables.{noRows};
 ghost use Rattle.star_grammar.specs.Machine.{Where, inBlock, setOf, start, within, run};
 ghost use Rattle.star_parse.specs.Parsed.{kindTokens, fourTables, hasRows, rowsRun, Refused, Answers};
 ghost use Rattle.star_parse.specs.Reader.{Ahead, NoEntry, Ready, Onward, Leads, Whole};
+
+// The words of a row of table 1.
+const WIDTH: usize = star_rows::TOKEN_WIDTH as usize;
 
 // What reading the rows answers: refusal, 0 when accepted; how many tokens stand before the bad one, or all of them; and the row counts.
 pub struct Parsed {
@@ -154,7 +158,7 @@ fn read_blocks(
     packets: &mut [u32],
     values: &mut [u32],
 ) -> Progress
-    requires { ⌜ count * 3 ≤ length (now tokens) ⌝ }
+    requires { ⌜ count * tokenWidth ≤ length (now tokens) ⌝ }
     requires { ⌜ count ≤ mostBytes ⌝ }
     ensures { λ r. ⌜ Whole count (run today start (kindTokens count (now (tokens .entry))) noRows)
         (fourTables (now (sets .entry)) (now (names .entry)) (now (packets .entry)) (now (values .entry))) r
@@ -178,7 +182,7 @@ fn read_blocks(
 fn has_rows(count: usize, words: usize) -> bool
     ensures { λ r. ⌜ r ≡ hasRows count words ⌝ }
 {
-    if words / 3 < count {
+    if words / WIDTH < count {
         return false;
     }
     count <= star_text::MOST_BYTES

@@ -3,7 +3,11 @@ ghost use mathlib.Core.Path.{_≡_};
 ghost use mathlib.Core.List.{[], _∷_};
 ghost use Prim.Native.Nat.{_+_, _*_, _≤_};
 ghost use lib.ListN.{length};
+ghost use Rattle.star_rows.specs.Widths.{tokenWidth};
 ghost use Rattle.star_parse.specs.Reader.{numberOf, SortAt, Fresh, CountRoom, Moved, Misplaced, RowPut};
+
+// The words of a row of table 1.
+const WIDTH: usize = star_rows::TOKEN_WIDTH as usize;
 
 // The sorts of tokens: the kind, 7 for every value, and 0 for the end.
 pub const END: u32 = 0;
@@ -76,12 +80,12 @@ fn sort_of(kind: u32) -> u32
 
 // The sort of the token at a place, or the end.
 pub(crate) fn sort_at(tokens: &[u32], count: usize, at: u32) -> u32
-    requires { ⌜ count * 3 ≤ length (now tokens) ⌝ }
+    requires { ⌜ count * tokenWidth ≤ length (now tokens) ⌝ }
     ensures { λ r. ⌜ SortAt count (now (tokens .entry)) at r ⌝ }
 {
     let row = at as usize;
     if row < count {
-        let word = row * 3;
+        let word = row * WIDTH;
         sort_of(tokens[word])
     } else {
         END

@@ -23,7 +23,8 @@ use Rattle.star_lex.specs.Holds.{Holds}
 use Rattle.star_lex.specs.Table.{firstByte}
 use Rattle.star_lex.proofs.Held.{nowhere, held-first}
 use Rattle.star_read.specs.Read.{FileRows, Sizes, tokenPlace, decide, roomFor, rowsFit}
-use Rattle.star_read.specs.Answer.{judgedOf, words, Ran}
+use Rattle.star_read.specs.Answer.{words}
+use Rattle.star_read.specs.Judged.{judgedOf, Ran}
 
 place-in : (size : ℕ) (ps : List Placed) (n : ℕ) → n < length ps → tokenPlace size ps n ≡ getD ps n nowhere .at
 unfolding tokenPlace

@@ -10,7 +10,7 @@ use Rattle.star_lex.specs.Split.{after, starts, whiteNext, quoted, lineEnd, clo
 use Rattle.star_lex.specs.Plain.{newline, closing, indent, plainToken, plainOf}
 use Rattle.star_lex.specs.Answer.{tokensInBy, tokensFit}
 use Rattle.star_grammar.specs.Tables.{Rows, noRows, pass, openLoop, putSet, putName, putPacket, putValue, setWords, nameWords, packetWords, valueWords}
-use Rattle.star_grammar.specs.Machine.{sortOf, setOf, parentOf, between, filled, fill, valueAt, begin, headerStep, noValue, noValueAt, bodyStep, startStep, namedStep, step, endBetween, endBody, endRun, leading as machine-run}
+use Rattle.star_grammar.specs.Machine.{sortOf, setOf, parentOf, between, filled, fill, valueAt, begin, headerStep, noValue, noValueAt, bodyStep, startStep, namedStep, step, endBetween, endBody, endRun, run as machine-run}
 use Rattle.star_unique.specs.Repeat.{among, nothing, isTaken, takeBlock, takeFrame, endFrame, takeName, takes, firstRepeat}
 use Rattle.star_read.specs.Read.{tokenPlace, decide, grammarOf, roomFor, rowsFit, readBy, readOf}
 use Rattle.star_read.specs.Answer.{tablesOf}

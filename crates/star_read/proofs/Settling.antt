@@ -25,7 +25,8 @@ use Rattle.star_unique.specs.Repeat.{nothing, firstRepeat}
 use Rattle.star_lex.proofs.Held.{count-small}
 use Rattle.star_read.specs.Read.{ReadOutcome, FileRows, Sizes, decide, roomFor, rowsFit, grammarOf}
 use Rattle.star_read.specs.Demands.{Room}
-use Rattle.star_read.specs.Answer.{readAnswer, tables, tablesOf, judgedOf, words, Ran, ClearedBehind, Leaves, Tables}
+use Rattle.star_read.specs.Answer.{readAnswer, tables, tablesOf, words, Leaves, Tables}
+use Rattle.star_read.specs.Judged.{judgedOf, Ran, ClearedBehind}
 use Rattle.star_read.specs.declared.Answer.{Answer}
 use Rattle.star_read.specs.declared.Judged.{Judged}
 use Rattle.star_read.proofs.Fitting.{rows-room}

@@ -1,19 +1,14 @@
--- What reading answers and leaves in the lent tables: specification 9.
+-- What reading answers and leaves in the lent tables: specification 9. Believed; the contracts of `read`, of every call that reads first, and the demands cite it.
 use mathlib.Core.Path.{_≡_}
 use mathlib.Core.List.{List}
-use Prim.Native.Nat.{ℕ, _*_}
+use Prim.Native.Nat.{ℕ}
 use lib.ListN.{length, replicate}
-use Rattle.star_text.specs.Outcome.{Outcome, refused, accepted, refusalOf, placeOf}
-use Rattle.star_rows.specs.Widths.{setWidth, nameWidth, packetWidth, valueWidth}
-use Rattle.star_rows.specs.Rows.{holding, clearedFrom}
+use Rattle.star_text.specs.Outcome.{Outcome, refused, accepted}
+use Rattle.star_rows.specs.Rows.{holding}
 use Rattle.star_lex.specs.Tokens.{tokenRow}
 use Rattle.star_grammar.specs.Tables.{setWords, nameWords, packetWords, valueWords}
 use Rattle.star_read.specs.Read.{FileRows, ReadOutcome, Sizes, readOf}
-use Rattle.star_grammar.specs.Machine.{Run, bad, good}
-use Rattle.star_parse.specs.Parsed.{FourTables}
-use Rattle.star_parse.specs.declared.Parsed.{Parsed}
 use Rattle.star_read.specs.declared.Answer.{Answer}
-use Rattle.star_read.specs.declared.Judged.{Judged}
 
 -- refusal and place, both 0 when accepted, and the five row counts
 unfoldable pub readAnswer : ReadOutcome → Answer
@@ -72,21 +67,10 @@ tablesOf (accepted (ps, rows)) words = record {
   values = holding valueWords (rows .values) (words .values);
 }
 
--- refusal and place of what the grammar and the room decide, both 0 when accepted
-unfoldable pub judgedOf : {A : Type 0} → Outcome A → Judged
-judgedOf o = record { refusal = refusalOf o; place = placeOf o }
-
 -- what a call that reads first and then does more leaves in the tables: the reading, or on a refusal what reading leaves on one
 unfoldable pub readingOf : {A : Type 0} → Outcome (FileRows × A) → ReadOutcome
 readingOf (refused n place) = refused n place
 readingOf (accepted (read, more)) = accepted read
-
--- an answer of the rows' reader to a run over so many tokens: refusal and how many tokens stand before the bad one, or the numbers of rows
-abbrev pub Ran : Run → ℕ → Parsed → Type 0
-Ran (bad n i) count r = (r .refusal ≡ n) × (r .tokens ≡ i)
-Ran (good rows) count r =
-    (r .refusal ≡ 0) × (r .tokens ≡ count) × (r .sets ≡ length (rows .sets)) × (r .names ≡ length (rows .names))
-    × (r .packets ≡ length (rows .packets)) × (r .values ≡ length (rows .values))
 
 -- the tables are left as the outcome says
 pub record Leaves (o : ReadOutcome) (words : Sizes) (t : Tables) : Type 0 where
@@ -104,10 +88,3 @@ pub record Gives (o : ReadOutcome) (before after : Tables) (r : Answer) : Type 0
 -- the contract of reading: the answer, and every word of the five tables
 abbrev pub Reads : (file : List ℕ) (before after : Tables) → Answer → Type 0
 Reads file before after r = Gives (readOf file (sizes before)) before after r
-
--- tables 2 to 5 are 0 behind their rows, and as they were before
-pub record ClearedBehind (rows : Parsed) (before after : FourTables) : Type 0 where
-  pub sets : after .sets ≡ clearedFrom (rows .sets * setWidth) (before .sets)
-  pub names : after .names ≡ clearedFrom (rows .names * nameWidth) (before .names)
-  pub packets : after .packets ≡ clearedFrom (rows .packets * packetWidth) (before .packets)
-  pub values : after .values ≡ clearedFrom (rows .values * valueWidth) (before .values)

@@ -1,4 +1,4 @@
--- What is demanded of reading: statements alone, over readings (star_grammar's specs/Reading.antt) and the split of a file.
+-- What is demanded of reading: statements alone, over readings (star_grammar's specs/Reading.antt) and the split of a file. Believed; star's Demands cites it.
 use mathlib.Core.Path.{_≡_}
 use mathlib.Core.Logic.{_⊎_, _↔_}
 use mathlib.Core.List.{List, [], _∷_, _++_}

@@ -1,4 +1,4 @@
--- The cases that specification 15 marks to be proved, over the definitions. `/` in a comment stands for byte 10.
+-- The cases that specification 15 marks to be proved, over the definitions. Believed; proofs/Known.antt proves it. `/` in a comment stands for byte 10.
 use mathlib.Core.Path.{_≡_}
 use mathlib.Core.List.{List, [], _∷_, map}
 use Prim.Native.Nat.{ℕ}

@@ -1,4 +1,5 @@
 pub mod Read
 pub mod Answer
+pub mod Judged
 pub mod Demands
 pub mod Known

@@ -1,4 +1,4 @@
--- What reading a file gives: specification 8. What is accepted, with which rows, and where a file is
+-- What reading a file gives: specification 8. For contracts, of `read` and of what reads first. What is accepted, with which rows, and where a file is
 -- refused is said without a machine by specs/Demands.antt.
 use mathlib.Core.Bool.{cond}
 use mathlib.Core.List.{List, [], _∷_, map}

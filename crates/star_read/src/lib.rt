@@ -10,7 +10,8 @@ ghost use Rattle.star_lex.specs.Holds.{Holds, fileTokens};
 ghost use Rattle.star_unique.specs.Repeat.{nothing, firstRepeat};
 ghost use Rattle.star_text.specs.Outcome.{refused, accepted, then};
 ghost use Rattle.star_read.specs.Read.{tokenPlace, roomFor, rowsFit, grammarOf};
-ghost use Rattle.star_read.specs.Answer.{tables, sizes, judgedOf, words, Ran, Leaves, Gives, Reads, ClearedBehind};
+ghost use Rattle.star_read.specs.Answer.{tables, sizes, words, Leaves, Gives, Reads};
+ghost use Rattle.star_read.specs.Judged.{judgedOf, Ran, ClearedBehind};
 ghost use Rattle.star_parse.specs.Parsed.{fourTables as four};
 use star_parse::Parsed;
 

@@ -66,10 +66,6 @@ clearing-turn {from} {at} {before} {words} k h = record {
 pub clearing-end : {from at : ℕ} {before words : List ℕ} → Clearing from at before words → length words ≤ at → words ≡ clearedFrom from before
 clearing-end {from} {at} {before} k h = k .holds ∙ clearing-all from at before (omega (arith, k .low, k .high, k .size))
 
-pub length-cleared : (from : ℕ) (words : List ℕ) → length (clearedFrom from words) ≡ length words
-unfolding clearedFrom
-length-cleared from words = simp (length-append, length-take, length-replicate) (omega arith)
-
 -- from the start on: every word is 0
 pub cleared-whole : (words : List ℕ) → clearedFrom 0 words ≡ replicate (length words) 0
 unfolding clearedFrom

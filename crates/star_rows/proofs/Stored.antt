@@ -23,14 +23,6 @@ pub put-full : (row : List ℕ) (n : ℕ) (words : List ℕ) → length words / 
 unfolding putRow
 put-full row n words h = rw (le-ltb n (length words / length row) h)
 
-pub length-put : (row : List ℕ) (n : ℕ) (words : List ℕ) → length (putRow row n words) ≡ length words
-unfolding putRow
-length-put row n words = go (ltb n (length words / length row))
-  where
-    go : (b : Bool) → length (cond b (sets words (n * length row) row) words) ≡ length words
-    go true = length-sets words (n * length row) row
-    go false = refl
-
 pub flat-append {ℓ} : {A : Type ℓ} (row : A → List ℕ) (xs ys : List A) → flatMap row (xs ++ ys) ≡ flatMap row xs ++ flatMap row ys
 unfolding flatMap
 flat-append row [] ys = refl

@@ -27,13 +27,6 @@ module _ (table : List ℕ) (width : ℕ) where
 pub small-product : (a b : ℕ) → a ≤ 4294967295 → b ≤ 4294967295 → a * b ≤ 18446744065119617025
 small-product a b h k = omega (arith, mul-le-mul-right b h)
 
--- room, as a test from the other side
-pub too-small : (rows width words : ℕ) → hasRoom rows width words ≡ false → ltb words (rows * width) ≡ true
-too-small rows width words e = lt-ltb words (rows * width) (leb-false (rows * width) words e)
-
-pub large-enough : (rows width words : ℕ) → hasRoom rows width words ≡ true → ltb words (rows * width) ≡ false
-large-enough rows width words e = le-ltb words (rows * width) (leb-true (rows * width) words e)
-
 -- a word of a table that holds rows is that of its row
 pub word-held : {A : Type 0} (width : ℕ) (row : A → List ℕ) → ((x : A) → length (row x) ≡ width) → (d : A) (xs : List A) (words n k : ℕ)
     → n < length xs → k < width → wordOf (holding row xs words) width (suc n) k ≡ getD (row (getD xs n d)) k 0

@@ -1,4 +1,4 @@
--- Rows of words in a table: specification 7.1 and 9.2.
+-- Rows of words in a table: specification 7.1 and 9.2. Believed; what reading leaves, what lookup reads and the contracts of star_rows cite it.
 use mathlib.Core.Bool.{Bool, cond}
 use mathlib.Core.List.{List, _++_, flatMap}
 use Prim.Native.Nat.{ℕ, zero, suc, _+_, _-_, _*_, _/_}

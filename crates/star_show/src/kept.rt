@@ -54,7 +54,7 @@ fn print_tables(kept: &[u32], between: &[u8]) {
 }
 
 // Prints refusal and place, and of an accepted file the counts and the rows of the five tables; of a refused one any count or word that is not 0.
-pub fn print_answer(answer: Answer, kept: &[u32]) {
+fn print_answer(answer: Answer, kept: &[u32]) {
     print::two(answer.refusal, answer.place);
     if answer.refusal == 0 {
         print::bar();
@@ -102,7 +102,7 @@ fn keep_tables(
 }
 
 // Reads a file into tables of as many words as are lent, none of them 0 before, and keeps what is left.
-pub fn read(file: &[u8], kept: &mut [u32]) -> Answer {
+pub(crate) fn read(file: &[u8], kept: &mut [u32]) -> Answer {
     let mut tokens = [FILLED; 1024];
     let mut sets = [FILLED; 1024];
     let mut names = [FILLED; 1024];
@@ -121,11 +121,11 @@ pub fn read(file: &[u8], kept: &mut [u32]) -> Answer {
     answer
 }
 
-// Reads a file and prints what came out.
-pub fn show(file: &[u8], kept: &mut [u32]) {
+// Reads a file, prints what came out and answers its refusal.
+pub fn show(file: &[u8], kept: &mut [u32]) -> u32 {
     let answer = read(file, kept);
-    print::bar();
     print_answer(answer, kept);
+    answer.refusal
 }
 
 // Makes a word be another: its row, its place and what it is to be are given.

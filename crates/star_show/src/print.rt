@@ -86,3 +86,10 @@ pub fn escaped(bytes: &[u8], size: usize) {
         at += 1;
     }
 }
+
+// Writes refusal, place and length of a plain form, and the plain form.
+pub fn form(refusal: u32, place: u32, length: u32, out: &[u8]) {
+    three(refusal, place, length);
+    bar();
+    escaped(out, length as usize);
+}

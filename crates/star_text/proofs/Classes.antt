@@ -8,7 +8,8 @@ use native.Mathlib.Omega.{arith}
 use borrow.Author.Tests.{eqb-true, eqb-false, lt-ltb, le-ltb, leb-true, leb-false}
 use lib.Dec.{T, eqb, leb, ltb, eqb→eq}
 use lib.ListN.{getD}
-use Rattle.star_text.specs.Bytes.{isBlank, isTerminate, isWhite, isPrintable, classOf, Classes, classIn, whiteIn, terminateIn, belowIn, leading}
+use Rattle.star_text.specs.Bytes.{isBlank, isTerminate, isWhite, isPrintable, leading}
+use Rattle.star_text.specs.Classes.{classOf, Classes, classIn, whiteIn, terminateIn, belowIn}
 use Rattle.star_text.proofs.Run.{run-agree}
 
 pub both-left : (a b : Bool) → T (a && b) → T a

@@ -1,4 +1,4 @@
--- When two names or codes are equal: specification 5.
+-- When two names or codes are equal: specification 5. Believed; uniqueness (star_grammar's Reading, star_unique's Repeat) and every lookup (star_find's Find) cite it.
 use mathlib.Core.Bool.{Bool, true, false, _&&_}
 use mathlib.Core.List.{List, [], _∷_}
 use Prim.Native.Nat.{ℕ}

@@ -1,4 +1,4 @@
--- What a call that may refuse gives: specification 8. Cited by the split, by reading, and by every call that reads first.
+-- What a call that may refuse gives: specification 8. Believed; the split, reading, and every call that reads first cite it.
 use mathlib.Core.Bool.{Bool, cond}
 use Prim.Native.Nat.{ℕ}
 

@@ -3,7 +3,8 @@ ghost use mathlib.Core.Path.{_≡_};
 ghost use mathlib.Core.Bool.{true};
 ghost use Prim.Native.Nat.{ℕ, _+_, _≤_, _<_};
 ghost use lib.ListN.{length, getD, drop};
-ghost use Rattle.star_text.specs.Bytes.{Classes, classIn, terminateIn, whiteIn, belowIn, isAllowed, firstRefused, leading};
+ghost use Rattle.star_text.specs.Bytes.{isAllowed, firstRefused, leading};
+ghost use Rattle.star_text.specs.Classes.{Classes, classIn, terminateIn, whiteIn, belowIn};
 ghost use Rattle.star_text.specs.Names.{same as Names·same};
 
 // The most bytes that a file may have.

@@ -31,9 +31,6 @@ pub quiet-end : Quiet frameEnd
 unfolding frameEnd
 quiet-end = omega arith
 
-pub quiet-value : (t : Token) → IsValue t → Quiet t
-quiet-value t h = record { no-block = λ e. omega (arith, h .low); no-frame = λ e. omega (arith, h .low); no-name = λ e. omega (arith, h .low) }
-
 quiet-clean : (s : Taken) (ts : List Token) → Each Quiet ts → Clean s ts
 quiet-clean s [] h = tt
 quiet-clean s (t ∷ ts) h = (other-taken s t (h .0 .no-block) (h .0 .no-frame) (h .0 .no-name), quiet-clean (takes s t) ts (h .1))

@@ -1,4 +1,4 @@
--- How a repeat is looked for: names and codes lie in buckets, and each row knows the last row before it in its bucket. This is an aid of the proof;
+-- How a repeat is looked for: names and codes lie in buckets, and each row knows the last row before it in its bucket. For contracts of star_unique's inner functions;
 -- what a repeat is, specs/Repeat.antt says.
 use mathlib.Core.Bool.{Bool, true, false, cond, _&&_, _||_}
 use mathlib.Core.List.{List, [], _∷_}

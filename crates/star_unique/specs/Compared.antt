@@ -1,4 +1,4 @@
--- What reading the tokens of a file and comparing its names and codes answers.
+-- What reading the tokens of a file and comparing its names and codes answers. For the contract of `read_tokens`.
 use mathlib.Core.Path.{_≡_}
 use mathlib.Core.List.{List, map}
 use Prim.Native.Nat.{ℕ}

@@ -1,5 +1,5 @@
 -- The first name or code of a row of tokens that is already taken (specification 5): names are unique within a block, its frames not counted, and
--- within a frame; frame codes are unique within a block, block codes within the file.
+-- within a frame; frame codes are unique within a block, block codes within the file. For contracts, and `readBy`; `repeat-distinct` ties it to what a reading asks.
 use mathlib.Core.Bool.{Bool, false, true, cond, _||_}
 use mathlib.Core.List.{List, [], _∷_, _++_}
 use Prim.Native.Nat.{ℕ, suc}

@@ -5,6 +5,7 @@ ghost use mathlib.Core.Bool.{true, false, _&&_};
 ghost use Prim.Native.Nat.{_+_, _*_, _%_, _≤_, _<_};
 ghost use lib.Dec.{eqb};
 ghost use lib.ListN.{length, getD};
+ghost use Rattle.star_rows.specs.Widths.{tokenWidth};
 ghost use Rattle.star_text.specs.Names.{same as Names·same};
 ghost use Rattle.star_unique.specs.Repeat.{nothing, firstRepeat};
 ghost use Rattle.star_lex.specs.Holds.{Holds, fileTokens, tokenAt};
@@ -12,14 +13,17 @@ ghost use Rattle.star_unique.specs.Chain.{nameSort, floorOf, passed, sco
 ghost use Rattle.star_unique.specs.Marked.{Spans, Marked, Heads, Visited};
 ghost use Rattle.star_unique.specs.Compared.{Compares};
 
+// The words of a row of table 1.
+const WIDTH: usize = star_rows::TOKEN_WIDTH as usize;
+
 // The part of the file that token `n` spans.
 fn span<'a>(file: &'a [u8], tokens: &[u32], count: usize, n: usize) -> &'a [u8]
     requires { ⌜ Spans (now file) (now tokens) count ⌝ }
     requires { ⌜ n < count ⌝ }
     ensures { λ r. ⌜ now r ≡ tokenAt (now (file .entry)) n .content ⌝ }
 {
-    let start = tokens[n * 3 + 1] as usize;
-    let end = tokens[n * 3 + 2] as usize;
+    let start = tokens[n * WIDTH + 1] as usize;
+    let end = tokens[n * WIDTH + 2] as usize;
     &file[start..end]
 }
 
@@ -121,9 +125,9 @@ fn ends_differ(a: &[u8], b: &[u8]) -> bool
 fn is_equal(file: &[u8], tokens: &[u32], count: usize, m: usize, sort: u32, bytes: &[u8]) -> bool
     requires { ⌜ Spans (now file) (now tokens) count ⌝ }
     requires { ⌜ m < count ⌝ }
-    ensures { λ r. ⌜ r ≡ (eqb (getD (now (tokens .entry)) (m * 3) 0 % 16) sort && Names·same (now (bytes .entry)) (tokenAt (now (file .entry)) m .content)) ⌝ }
+    ensures { λ r. ⌜ r ≡ (eqb (getD (now (tokens .entry)) (m * tokenWidth) 0 % 16) sort && Names·same (now (bytes .entry)) (tokenAt (now (file .entry)) m .content)) ⌝ }
 {
-    if tokens[m * 3] % 16 != sort {
+    if tokens[m * WIDTH] % 16 != sort {
         return false;
     }
     let other = span(file, tokens, count, m);
@@ -155,7 +159,7 @@ fn follow(
         if is_equal(file, tokens, count, row - 1, sort, bytes) {
             return true;
         }
-        row = (tokens[(row - 1) * 3] / 16) as usize;
+        row = (tokens[(row - 1) * WIDTH] / 16) as usize;
     }
     false
 }
@@ -176,7 +180,7 @@ fn visit(
     ensures { λ r. ⌜ Visited (now (file .entry)) count n r (now (tokens .exit)) (now (heads .exit)) ⌝ }
 {
     let inside = scope.inside;
-    let sort = sort_of(inside, tokens[n * 3]);
+    let sort = sort_of(inside, tokens[n * WIDTH]);
     if sort == 0 {
         return false;
     }
@@ -195,7 +199,7 @@ fn visit(
     ) {
         return true;
     }
-    tokens[n * 3] = sort + last * 16;
+    tokens[n * WIDTH] = sort + last * 16;
     heads[b] = n as u32 + 1;
     false
 }
@@ -214,7 +218,7 @@ fn mark(file: &[u8], tokens: &mut [u32], count: usize, heads: &mut [u32]) -> usi
     };
     let mut n = 0;
     while n < count {
-        let kind = tokens[n * 3];
+        let kind = tokens[n * WIDTH];
         if visit(file, tokens, count, heads, n, scope) {
             return n;
         }
@@ -243,7 +247,7 @@ fn unmark(file: &[u8], tokens: &mut [u32], count: usize, rows: usize)
 {
     let mut n = 0;
     while n < rows {
-        tokens[n * 3] = kind_of(tokens[n * 3]);
+        tokens[n * WIDTH] = kind_of(tokens[n * WIDTH]);
         n += 1;
     }
 }

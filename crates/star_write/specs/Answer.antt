@@ -1,4 +1,4 @@
--- What writing answers, and what it leaves in the lent tables and the output: specification 12.6 and 12.7.
+-- What writing answers, and what it leaves in the lent tables and the output: specification 12.6 and 12.7. Believed; the contract of `write` and the demands cite it.
 use mathlib.Core.Path.{_≡_}
 use mathlib.Core.List.{List, [], _++_}
 use Prim.Native.Nat.{ℕ, _-_}

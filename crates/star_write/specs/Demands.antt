@@ -1,5 +1,5 @@
 -- What is demanded of the writer: statements alone. Where the plain form is within the size limit, reading it, with room, is accepted and
--- gives the same kinds, contents and structure, and writing it again gives the same bytes.
+-- gives the same kinds, contents and structure, and writing it again gives the same bytes. Believed; star's Demands cites it.
 use mathlib.Core.Path.{_≡_}
 use mathlib.Core.List.{List}
 use Prim.Native.Nat.{ℕ, _*_, _≤_}

@@ -1,4 +1,4 @@
--- What the routines that write answer and leave, in terms of the bytes that they write.
+-- What the routines that write answer and leave, in terms of the bytes that they write. For contracts of star_write's inner functions.
 use mathlib.Core.Path.{_≡_}
 use mathlib.Core.List.{List, _++_}
 use Prim.Native.Nat.{ℕ, _+_}

@@ -1,4 +1,4 @@
--- What writing gives: specification 12.4.
+-- What writing gives: specification 12.4. Believed; the contract of `write` and the demands cite it.
 use mathlib.Core.List.{List}
 use Prim.Native.Nat.{ℕ}
 use lib.Dec.{leb}

@@ -7,6 +7,9 @@ ghost use lib.ListN.{length, drop};
 ghost use Rattle.star_lex.specs.Plain.{plainOf};
 ghost use Rattle.star_lex.specs.Holds.{Holds, fileTokens};
 
+// The words of a row of table 1.
+const WIDTH: usize = star_rows::TOKEN_WIDTH as usize;
+
 // How many bytes the tokens take. It is called by proved layers only, which hand it table 1 of the file.
 pub(crate) fn plain_length(file: &[u8], tokens: &[u32], count: usize) -> usize
     requires { ⌜ Holds (now file) (now tokens) count ⌝ }
@@ -15,7 +18,7 @@ pub(crate) fn plain_length(file: &[u8], tokens: &[u32], count: usize) -> usize
     let mut total: usize = 0;
     let mut n = 0;
     while n < count {
-        let kind = tokens[n * 3];
+        let kind = tokens[n * WIDTH];
         total += token::token_length(kind, star_lex::content(file, tokens, n));
         n += 1;
     }
@@ -33,7 +36,7 @@ pub(crate) fn put_tokens(file: &[u8], tokens: &[u32], count: usize, out: &mut [u
     let mut at = 0;
     let mut n = 0;
     while n < count {
-        let kind = tokens[n * 3];
+        let kind = tokens[n * WIDTH];
         let content = star_lex::content(file, tokens, n);
         at += token::put_token(&mut out[at..], kind, content);
         n += 1;

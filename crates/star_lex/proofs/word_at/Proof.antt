@@ -6,7 +6,8 @@ use Prim.Native.Nat.{ℕ, _+_}
 use native.Mathlib.Omega.{arith}
 use borrow.Author.Needs.{needs}
 use lib.ListN.{length, getD, drop, length-drop}
-use Rattle.star_text.specs.Bytes.{leading, isWhite, belowIn}
+use Rattle.star_text.specs.Bytes.{leading, isWhite}
+use Rattle.star_text.specs.Classes.{belowIn}
 use Rattle.star_text.proofs.Run.{run-length}
 use Rattle.star_lex.specs.Rules.{today}
 use Rattle.star_lex.specs.Split.{wordFrom, wordLexeme}

@@ -9,7 +9,8 @@ use Rattle.star_grammar.specs.Tables.{noRows}
 use Rattle.star_grammar.specs.Machine.{Run, run, start}
 use Rattle.star_lex.specs.Holds.{fileTokens}
 use Rattle.star_read.specs.Read.{Sizes, grammarOf, tokenPlace}
-use Rattle.star_read.specs.Answer.{words, Ran}
+use Rattle.star_read.specs.Answer.{words}
+use Rattle.star_read.specs.Judged.{Ran}
 use Rattle.star_read.specs.declared.Judged.{Judged}
 use Rattle.star_read.proofs.Judging.{judge-repeat, judge-bad, judge-room, run-number}
 use Rattle.star_read.proofs.judge.Statement.{statement}

@@ -3,7 +3,7 @@ use mathlib.Core.Path.{sym, _∙_}
 use borrow.Author.Tests.{not-true, not-false}
 use Rattle.star_text.specs.Outcome.{need, refusalOf, placeOf}
 use Rattle.star_read.specs.Read.{roomFor}
-use Rattle.star_read.specs.Answer.{judgedOf}
+use Rattle.star_read.specs.Judged.{judgedOf}
 use borrow.Author.Needs.{needs}
 use Rattle.star_read.proofs.room.Statement.{statement}
 use Rattle.star_read.proofs.room.Tie as tie

@@ -1,5 +1,6 @@
 -- `class_table` meets its contract: each entry of its array is the class of its byte.
-use Rattle.star_text.specs.Bytes.{isBlank, isTerminate, isPrintable, classOf}
+use Rattle.star_text.specs.Bytes.{isBlank, isTerminate, isPrintable}
+use Rattle.star_text.specs.Classes.{classOf}
 use Rattle.star_text.proofs.Classes.{below, right, classes-right}
 use Rattle.star_text.proofs.class_table.Statement.{statement}
 use Rattle.star_text.proofs.class_table.Tie as tie

@@ -5,7 +5,7 @@ use Prim.Native.Nat.{_+_}
 use native.Mathlib.Nat.{add-zero}
 use borrow.Author.Tests.{lt-ltb}
 use lib.ListN.{getD}
-use Rattle.star_text.specs.Bytes.{belowIn}
+use Rattle.star_text.specs.Classes.{belowIn}
 use Rattle.star_text.proofs.Run.{each-of-four, never}
 use borrow.Author.Needs.{needs}
 use Rattle.star_text.proofs.four_below.Statement.{statement}

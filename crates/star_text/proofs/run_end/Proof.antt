@@ -6,7 +6,8 @@ use borrow.Author.Needs.{needs}
 use borrow.Author.Tests.{lt-ltb, le-ltb}
 use lib.Dec.{ltb}
 use lib.ListN.{length, drop}
-use Rattle.star_text.specs.Bytes.{leading, belowIn}
+use Rattle.star_text.specs.Bytes.{leading}
+use Rattle.star_text.specs.Classes.{belowIn}
 use Rattle.star_text.proofs.Run.{run-goes, run-stops, run-ends}
 use Rattle.star_text.proofs.run_end.Statement.{statement}
 use Rattle.star_text.proofs.run_end.Tie as tie

@@ -4,7 +4,8 @@ use Prim.Native.Nat.{_+_, _-_}
 use native.Mathlib.Omega.{arith}
 use borrow.Author.Tests.{not-false}
 use lib.ListN.{length, drop}
-use Rattle.star_text.specs.Bytes.{leading, belowIn}
+use Rattle.star_text.specs.Bytes.{leading}
+use Rattle.star_text.specs.Classes.{belowIn}
 use Rattle.star_text.proofs.Run.{run-goes-four}
 use Rattle.star_text.proofs.skip_below.Statement.{statement}
 use Rattle.star_text.proofs.skip_below.Tie as tie
