@@ -6,7 +6,7 @@ use word::Word;
 ghost use mathlib.Core.Path.{_≡_};
 ghost use mathlib.Core.List.{List};
 ghost use Prim.Native.Nat.{_+_, _≤_, _<_};
-ghost use lib.ListN.{length, getD, drop, replicate};
+ghost use lib.ListN.{length, getD, drop};
 ghost use Rattle.star_rows.specs.Rows.{stored};
 ghost use Rattle.star_rows.specs.Widths.{tokenWidth};
 ghost use mathlib.Core.Bool.{true, false, _&&_};
@@ -18,7 +18,7 @@ ghost use Rattle.star_lex.specs.Rules.{today};
 ghost use Rattle.star_lex.specs.Tokens.{Placed, tokenRow, opening};
 ghost use Rattle.star_text.specs.Outcome.{refused, accepted};
 ghost use Rattle.star_lex.specs.Split.{quoted, field, fieldLexeme, quotedLexeme, wordFrom, split as Split·split, lexeme as Split·lexeme};
-ghost use Rattle.star_lex.specs.Answer.{splitAnswer, Splits, scannedAt, isSome};
+ghost use Rattle.star_lex.specs.Answer.{tokensIn, splitAnswer, Splits, scannedAt, isSome};
 ghost use Rattle.star_lex.specs.Table.{contentIn, orEmpty, startIn, firstByte, further};
 
 // The classes of bytes that white space and line ends begin with.
@@ -186,12 +186,10 @@ fn split(classes: &[u8; 256], file: &[u8], table: &mut [u32]) -> Tokens
     }
 }
 
-// A refusal: every word of the table is 0.
-fn refuse(table: &mut [u32], refusal: u32, place: u32) -> Tokens
+// A refusal: no tokens are counted.
+fn refuse(refusal: u32, place: u32) -> Tokens
     ensures { λ r. ⌜ r ≡ splitAnswer (refused refusal place) ⌝ }
-    ensures { λ _. ⌜ now (table .exit) ≡ replicate (length (now (table .entry))) 0 ⌝ }
 {
-    star_rows::clear_from(table, 0);
     Tokens {
         refusal,
         place,
@@ -199,27 +197,33 @@ fn refuse(table: &mut [u32], refusal: u32, place: u32) -> Tokens
     }
 }
 
-// Splits a file into tokens and stores them as table 1; on a refusal every word of it is 0.
-pub fn read_tokens(file: &[u8], table: &mut [u32]) -> Tokens
-    ensures { λ r. ⌜ Splits (now (file .entry)) (now (table .entry)) (now (table .exit)) r ⌝ }
+// The refusals 1 to 7 in their order, or the number of tokens; then the table has their rows.
+fn split_in(file: &[u8], table: &mut [u32]) -> Tokens
+    ensures { λ r. ⌜ r ≡ splitAnswer (tokensIn (now (file .entry)) (length (now (table .entry)))) ⌝ }
+    ensures { λ _. ⌜ ((ps : List Placed) → tokensIn (now (file .entry)) (length (now (table .entry))) ≡ accepted ps
+        → now (table .exit) ≡ stored tokenWidth tokenRow ps (now (table .entry))) ⌝ }
 {
     if star_text::MOST_BYTES < file.len() {
-        return refuse(table, 1, 0);
+        return refuse(1, 0);
     }
     let at = star_text::first_refused(file);
     if at < file.len() {
-        return refuse(table, 2, at as u32);
+        return refuse(2, at as u32);
     }
     let classes = star_text::class_table();
     let found = split(&classes, file, table);
-    if found.refusal != 0 {
-        return refuse(table, found.refusal, found.place);
+    if table.len() / WIDTH < found.count as usize {
+        return refuse(7, 1);
     }
-    let count = found.count as usize;
-    if table.len() / WIDTH < count {
-        return refuse(table, 7, 1);
-    }
-    star_rows::clear_from(table, count * WIDTH);
+    found
+}
+
+// Splits a file into tokens and stores them as table 1; on a refusal, which counts none, every word of it is 0.
+pub fn read_tokens(file: &[u8], table: &mut [u32]) -> Tokens
+    ensures { λ r. ⌜ Splits (now (file .entry)) (now (table .entry)) (now (table .exit)) r ⌝ }
+{
+    let found = split_in(file, table);
+    star_rows::clear_from(table, found.count as usize * WIDTH);
     found
 }
 

@@ -1,5 +1,5 @@
 -- Laws of bytes in a room: bytes put where those before them end, and bytes at the start of what is left, go behind those before them.
-use mathlib.Core.Path.{_≡_, refl, sym, _∙_, ap}
+use mathlib.Core.Path.{_≡_, refl, sym, _∙_, ap, subst}
 use mathlib.Core.List.{List, [], _++_, append-nil, append-assoc}
 use Prim.Native.Nat.{ℕ, _+_, _-_, _≤_}
 use native.Mathlib.Nat.{add-zero}
@@ -8,6 +8,10 @@ use lib.ListN.{length, take, drop, replicate, length-append, length-drop, take-a
 use lib.Seq.{drop-drop, take-at, take-all, take-append-seam, drop-at}
 use Rattle.star_rows.specs.Rows.{clearedFrom}
 use Rattle.star_write.specs.Put.{Put, Filled}
+
+-- the same bytes are put
+pub put-same : {bytes others : List ℕ} {at next : ℕ} {before after : List ℕ} → bytes ≡ others → Put bytes at before after next → Put others at before after next
+put-same {at = at} {next = next} {before = before} {after = after} e p = subst (λ b. Put b at before after next) e p
 
 -- nothing is put
 pub put-none : (at : ℕ) (room : List ℕ) → Put [] at room room at

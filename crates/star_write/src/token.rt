@@ -4,7 +4,7 @@ ghost use mathlib.Core.Path.{_≡_};
 ghost use mathlib.Core.Bool.{_&&_};
 ghost use Prim.Native.Nat.{_+_, _≤_};
 ghost use lib.Dec.{eqb};
-ghost use lib.ListN.{length};
+ghost use lib.ListN.{length, take};
 ghost use Rattle.star_lex.specs.Tokens.{opening};
 ghost use Rattle.star_lex.specs.Split.{starts};
 ghost use Rattle.star_lex.specs.Plain.{closing, indent, plainToken};
@@ -33,19 +33,53 @@ fn put_indent(out: &mut [u8], at: usize, kind: u32, content: &[u8]) -> usize
     }
 }
 
+// The bytes that stand before a token's content, and more: as many count as `lead` says.
+fn opening_bytes(kind: u32) -> [u8; 5]
+    ensures { λ r. ⌜ take (length (opening kind)) r ≡ opening kind ⌝ }
+    ensures { λ _. ⌜ length (opening kind) ≤ 5 ⌝ }
+{
+    match kind {
+        1 => [b'd', b'a', b't', b'a', b'_'],
+        2 => [b's', b'a', b'v', b'e', b'_'],
+        8 => [b'$', 0, 0, 0, 0],
+        9 => [b'\'', 0, 0, 0, 0],
+        10 => [b'"', 0, 0, 0, 0],
+        11 => [b';', 0, 0, 0, 0],
+        _ => [0, 0, 0, 0, 0],
+    }
+}
+
 // Puts what stands before a token's content.
 fn put_opening(out: &mut [u8], at: usize, kind: u32) -> usize
     requires { ⌜ at + length (opening kind) ≤ length (now out) ⌝ }
     ensures { λ r. ⌜ Put (opening kind) at (now (out .entry)) (now (out .exit)) r ⌝ }
 {
+    let bytes = opening_bytes(kind);
+    room::put_bytes(out, at, &bytes[0..star_lex::word::lead(kind)])
+}
+
+// The bytes that stand after a token's content, and more: as many count as `closing_length` says.
+fn closing_bytes(kind: u32, content: &[u8]) -> [u8; 2]
+    ensures { λ r. ⌜ take (length (closing kind (now (content .entry)))) r ≡ closing kind (now (content .entry)) ⌝ }
+    ensures { λ _. ⌜ length (closing kind (now (content .entry))) ≤ 2 ⌝ }
+{
     match kind {
-        1 => room::put_bytes(out, at, b"data_"),
-        2 => room::put_bytes(out, at, b"save_"),
-        8 => room::put_bytes(out, at, b"$"),
-        9 => room::put_bytes(out, at, b"'"),
-        10 => room::put_bytes(out, at, b"\""),
-        11 => room::put_bytes(out, at, b";"),
-        _ => at,
+        9 => [b'\'', 0],
+        10 => [b'"', 0],
+        11 => [b'\n', b';'],
+        _ => [0, 0],
+    }
+}
+
+// How many bytes stand after a token's content.
+fn closing_length(kind: u32, content: &[u8]) -> usize
+    ensures { λ r. ⌜ r ≡ length (closing kind (now (content .entry))) ⌝ }
+{
+    match kind {
+        9 => 1,
+        10 => 1,
+        11 => 2,
+        _ => 0,
     }
 }
 
@@ -54,12 +88,8 @@ fn put_closing(out: &mut [u8], at: usize, kind: u32, content: &[u8]) -> usize
     requires { ⌜ at + length (closing kind (now content)) ≤ length (now out) ⌝ }
     ensures { λ r. ⌜ Put (closing kind (now (content .entry))) at (now (out .entry)) (now (out .exit)) r ⌝ }
 {
-    match kind {
-        9 => room::put_bytes(out, at, b"'"),
-        10 => room::put_bytes(out, at, b"\""),
-        11 => room::put_bytes(out, at, b"\n;"),
-        _ => at,
-    }
+    let bytes = closing_bytes(kind, content);
+    room::put_bytes(out, at, &bytes[0..closing_length(kind, content)])
 }
 
 // Writes a token at the start of the room that is left, and answers how many bytes. It is called by proved layers only, which lend room enough.
@@ -79,18 +109,6 @@ fn indent_length(kind: u32, content: &[u8]) -> usize
     ensures { λ r. ⌜ r ≡ length (indent (tokenOf kind (now (content .entry)))) ⌝ }
 {
     if is_indented(kind, content) { 1 } else { 0 }
-}
-
-// How many bytes stand after a token's content.
-fn closing_length(kind: u32, content: &[u8]) -> usize
-    ensures { λ r. ⌜ r ≡ length (closing kind (now (content .entry))) ⌝ }
-{
-    match kind {
-        9 => 1,
-        10 => 1,
-        11 => 2,
-        _ => 0,
-    }
 }
 
 // How many bytes a token takes, with the line end after it.

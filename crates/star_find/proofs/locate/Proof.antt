@@ -31,11 +31,22 @@ word-requires-2 c κs = search needs
 
 returns-3 : tie.Need-returns-3
 unfolding locate located
-returns-3 c = rw (sym (c .before .before .before .before .before .before .before .row-there .ensures) ∙ not-false _ (c .before .before .before .before .before .before .if1 .left), sym (c .before .before .before .before .before .value-row .ensures), ne-eqb _ 0 (c .before .before .before .before .if2 .left), sym (c .before .before .before .word .ensures), sym (c .before .before .has-part .ensures) ∙ c .before .if3 .taken, sym (c .word2 .ensures))
+returns-3 c =
+    let at-word = c .before .before .before in
+    let at-if2 = at-word .before in
+    let at-value-row = at-if2 .before in
+    let at-if1 = at-value-row .before in
+    let at-row-there = at-if1 .before in
+    rw (sym (at-row-there .row-there .ensures) ∙ not-false _ (at-if1 .if1 .left), sym (at-value-row .value-row .ensures), ne-eqb _ 0 (at-if2 .if2 .left), sym (at-word .word .ensures), sym (c .before .before .has-part .ensures) ∙ c .before .if3 .taken, sym (c .word2 .ensures))
 
 returns-4 : tie.Need-returns-4
 unfolding locate located missing
-returns-4 c = rw (sym (c .before .before .before .before .before .before .row-there .ensures) ∙ not-false _ (c .before .before .before .before .before .if1 .left), sym (c .before .before .before .before .value-row .ensures), ne-eqb _ 0 (c .before .before .before .if2 .left), sym (c .before .before .word .ensures), sym (c .before .has-part .ensures) ∙ c .if3 .left)
+returns-4 c =
+    let at-if2 = c .before .before .before in
+    let at-value-row = at-if2 .before in
+    let at-if1 = at-value-row .before in
+    let at-row-there = at-if1 .before in
+    rw (sym (at-row-there .row-there .ensures) ∙ not-false _ (at-if1 .if1 .left), sym (at-value-row .value-row .ensures), ne-eqb _ 0 (at-if2 .if2 .left), sym (c .before .before .word .ensures), sym (c .before .has-part .ensures) ∙ c .if3 .left)
 
 pub locate-spec : {M : Type 1} → statement M
 locate-spec =

@@ -45,7 +45,9 @@ abbrev μ-loop : tie.MeasureT-loop
 μ-loop file tokens count table rows w bytes i₀ i = rows - i
 
 loop-holds : tie.Need-loop-holds Inv-loop μ-loop
-loop-holds c = (omega arith, from-first (c .before .before .before .before .args .file .now) (c .before .before .before .before .args .tokens .now) (c .before .before .before .before .args .count) (c .before .before .before .before .args .table .now) (c .before .before .before .before .args .rows) (c .before .before .before .before .args .w) (c .before .before .before .before .args .bytes .now))
+loop-holds c =
+    let start = c .before .before .before .before in
+    (omega arith, from-first (start .args .file .now) (start .args .tokens .now) (start .args .count) (start .args .table .now) (start .args .rows) (start .args .w) (start .args .bytes .now))
 
 add-compare-row : tie.Need-add-compare-row Inv-loop μ-loop
 add-compare-row c = omega (arith, c .before .before .before .before .before .before .fits .rows)
@@ -58,7 +60,10 @@ enum-told c = search needs
 
 returns : tie.Need-returns Inv-loop μ-loop
 unfolding found refused
-returns c = sym (from-at (c .before .before .before .before .before .before .before .before .before .args .file .now) (c .before .before .before .before .before .before .before .before .before .args .tokens .now) (c .before .before .before .before .before .before .before .before .before .args .count) (c .before .before .before .before .before .before .before .before .before .args .table .now) (c .before .before .before .before .before .before .before .before .before .args .rows) (c .before .before .before .before .before .before .before .before .before .args .w) (c .before .before .before .before .before .before .before .before .before .args .bytes .now) (c .before .before .before .before .loop .i) (omega arith) (sym (c .before .before .compare-row .ensures) ∙ c .enum-told .given .1)) ∙ c .before .before .before .before .loop .inv .1
+returns c =
+    let at-loop = c .before .before .before .before in
+    let start = at-loop .before .before .before .before .before in
+    sym (from-at (start .args .file .now) (start .args .tokens .now) (start .args .count) (start .args .table .now) (start .args .rows) (start .args .w) (start .args .bytes .now) (at-loop .loop .i) (omega arith) (sym (c .before .before .compare-row .ensures) ∙ c .enum-told .given .1)) ∙ at-loop .loop .inv .1
 
 enum-told-2 : tie.Need-enum-told-2 Inv-loop μ-loop
 enum-told-2 c = search needs
@@ -68,7 +73,10 @@ add-t12 c = omega (arith, c .before .before .before .before .before .before .bef
 
 returns-2 : tie.Need-returns-2 Inv-loop μ-loop
 unfolding found refused
-returns-2 c = sym (from-at (c .before .before .before .before .before .before .before .before .before .args .file .now) (c .before .before .before .before .before .before .before .before .before .args .tokens .now) (c .before .before .before .before .before .before .before .before .before .args .count) (c .before .before .before .before .before .before .before .before .before .args .table .now) (c .before .before .before .before .before .before .before .before .before .args .rows) (c .before .before .before .before .before .before .before .before .before .args .w) (c .before .before .before .before .before .before .before .before .before .args .bytes .now) (c .before .before .before .before .loop .i) (omega arith) (sym (c .before .before .compare-row .ensures) ∙ c .enum-told2 .given .1)) ∙ c .before .before .before .before .loop .inv .1
+returns-2 c =
+    let at-loop = c .before .before .before .before in
+    let start = at-loop .before .before .before .before .before in
+    sym (from-at (start .args .file .now) (start .args .tokens .now) (start .args .count) (start .args .table .now) (start .args .rows) (start .args .w) (start .args .bytes .now) (at-loop .loop .i) (omega arith) (sym (c .before .before .compare-row .ensures) ∙ c .enum-told2 .given .1)) ∙ at-loop .loop .inv .1
 
 enum-told-3 : tie.Need-enum-told-3 Inv-loop μ-loop
 enum-told-3 c = search needs
@@ -80,7 +88,10 @@ loop-less : tie.Need-loop-less Inv-loop μ-loop
 loop-less c = omega arith
 
 loop-again : tie.Need-loop-again Inv-loop μ-loop
-loop-again c = (omega arith, sym (from-at (c .before .before .before .before .before .before .before .before .before .args .file .now) (c .before .before .before .before .before .before .before .before .before .args .tokens .now) (c .before .before .before .before .before .before .before .before .before .args .count) (c .before .before .before .before .before .before .before .before .before .args .table .now) (c .before .before .before .before .before .before .before .before .before .args .rows) (c .before .before .before .before .before .before .before .before .before .args .w) (c .before .before .before .before .before .before .before .before .before .args .bytes .now) (c .before .before .before .before .loop .i) (omega arith) (sym (c .before .before .compare-row .ensures) ∙ c .enum-told3 .given .1)) ∙ c .before .before .before .before .loop .inv .1)
+loop-again c =
+    let at-loop = c .before .before .before .before in
+    let start = at-loop .before .before .before .before .before in
+    (omega arith, sym (from-at (start .args .file .now) (start .args .tokens .now) (start .args .count) (start .args .table .now) (start .args .rows) (start .args .w) (start .args .bytes .now) (at-loop .loop .i) (omega arith) (sym (c .before .before .compare-row .ensures) ∙ c .enum-told3 .given .1)) ∙ at-loop .loop .inv .1)
 
 returns-3 : tie.Need-returns-3 Inv-loop μ-loop
 unfolding found refused

@@ -47,12 +47,14 @@ loop-less : tie.Need-loop-less Inv-loop μ-loop
 loop-less c = omega arith
 
 loop-again : tie.Need-loop-again Inv-loop μ-loop
-loop-again c = (
-  omega arith,
-  (rw (c .left-after .ensures)
-      (sym (kth-at _ (c .before .before .before .before .loop .left) (c .before .before .before .before .before .before .args .rows) (c .before .before .before .before .loop .i) (omega arith) ∙ (rw (sym (c .before .before .is-last .ensures) ∙ c .before .if1 .left)))
-      ∙ c .before .before .before .before .loop .inv .1)),
-)
+loop-again c =
+    let at-loop = c .before .before .before .before in
+    let start = at-loop .before .before in (
+      omega arith,
+      (rw (c .left-after .ensures)
+          (sym (kth-at _ (at-loop .loop .left) (start .args .rows) (at-loop .loop .i) (omega arith) ∙ (rw (sym (c .before .before .is-last .ensures) ∙ c .before .if1 .left)))
+          ∙ at-loop .loop .inv .1)),
+    )
 
 returns-2 : tie.Need-returns-2 Inv-loop μ-loop
 returns-2 c = sym (kth-over _ (c .before .loop .left) (c .before .before .before .args .rows) (c .before .loop .i) (omega arith)) ∙ c .before .loop .inv .1

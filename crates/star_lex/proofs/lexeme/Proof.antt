@@ -58,7 +58,11 @@ text-field-requires c κs = search needs
 
 returns-3 : tie.Need-returns-3
 unfolding lexeme scannedAt
-returns-3 c = rw ((sym (white (c .before .before .before .before .before)) ∙ c .before .before .before .before .if1 .left), ne-eqb _ 35 (c .before .before .before .if2 .left), (sym (c .before .before .opens-field .ensures) ∙ c .before .if3 .taken)) (c .text-field .ensures)
+returns-3 c =
+    let at-if2 = c .before .before .before in
+    let at-if1 = at-if2 .before in
+    let at-5 = at-if1 .before in
+    rw ((sym (white (at-5)) ∙ at-if1 .if1 .left), ne-eqb _ 35 (at-if2 .if2 .left), (sym (c .before .before .opens-field .ensures) ∙ c .before .if3 .taken)) (c .text-field .ensures)
 
 quoted-string-requires : tie.Need-quoted-string-requires
 unfolding opening
@@ -69,9 +73,13 @@ quoted-string-requires c κs =
 returns-4 : tie.Need-returns-4
 unfolding lexeme scannedAt
 returns-4 c =
-    let at-if1 = c .before .before .before .before .before in
+    let at-opens-field = c .before .before .before in
+    let at-if2 = at-opens-field .before in
+    let at-5 = at-if2 .before in
+    let at-6 = at-5 .before in
+    let at-if1 = at-5 in
     let start = at-if1 .before .before .before .before in
-    rw ((sym (white (c .before .before .before .before .before .before)) ∙ at-if1 .if1 .left), ne-eqb _ 35 (c .before .before .before .before .if2 .left), (sym (c .before .before .before .opens-field .ensures) ∙ c .before .before .if3 .left), eq-eqb _ 39 (c .before .if4 .taken))
+    rw ((sym (white (at-6)) ∙ at-if1 .if1 .left), ne-eqb _ 35 (at-if2 .if2 .left), (sym (at-opens-field .opens-field .ensures) ∙ c .before .before .if3 .left), eq-eqb _ 39 (c .before .if4 .taken))
     (c .quoted-string .ensures ∙ ap (λ n. scannedAt (start .args .at) (quotedLexeme 9 (quoted n (drop ((start .args .at) + 1) (start .args .file .now))))) (c .before .if4 .taken))
 
 quoted-string-requires-2 : tie.Need-quoted-string-requires-2
@@ -84,10 +92,14 @@ quoted-string-requires-2 c κs =
 returns-5 : tie.Need-returns-5
 unfolding lexeme scannedAt
 returns-5 c =
-    let at-if2 = c .before .before .before .before .before in
+    let at-if3 = c .before .before .before in
+    let at-opens-field = at-if3 .before in
+    let at-5 = at-opens-field .before in
+    let at-7 = at-5 .before .before in
+    let at-if2 = at-5 in
     let at-if1 = at-if2 .before in
     let start = at-if1 .before .before .before .before in
-    rw ((sym (white (c .before .before .before .before .before .before .before)) ∙ at-if1 .if1 .left), ne-eqb _ 35 (at-if2 .if2 .left), (sym (c .before .before .before .before .opens-field .ensures) ∙ c .before .before .before .if3 .left), ne-eqb _ 39 (c .before .before .if4 .left), eq-eqb _ 34 (c .before .if5 .taken))
+    rw ((sym (white (at-7)) ∙ at-if1 .if1 .left), ne-eqb _ 35 (at-if2 .if2 .left), (sym (at-opens-field .opens-field .ensures) ∙ at-if3 .if3 .left), ne-eqb _ 39 (c .before .before .if4 .left), eq-eqb _ 34 (c .before .if5 .taken))
     (c .quoted-string2 .ensures ∙ ap (λ n. scannedAt (start .args .at) (quotedLexeme 10 (quoted n (drop ((start .args .at) + 1) (start .args .file .now))))) (c .before .if5 .taken))
 
 word-at-requires : tie.Need-word-at-requires
@@ -99,9 +111,13 @@ word-at-requires c κs =
 returns-6 : tie.Need-returns-6
 unfolding lexeme scannedAt
 returns-6 c =
-    let at-if2 = c .before .before .before .before .before in
+    let at-if3 = c .before .before .before in
+    let at-opens-field = at-if3 .before in
+    let at-5 = at-opens-field .before in
+    let at-7 = at-5 .before .before in
+    let at-if2 = at-5 in
     let at-if1 = at-if2 .before in
-    rw ((sym (white (c .before .before .before .before .before .before .before)) ∙ at-if1 .if1 .left), ne-eqb _ 35 (at-if2 .if2 .left), (sym (c .before .before .before .before .opens-field .ensures) ∙ c .before .before .before .if3 .left), ne-eqb _ 39 (c .before .before .if4 .left), ne-eqb _ 34 (c .before .if5 .left)) (c .word-at .ensures)
+    rw ((sym (white (at-7)) ∙ at-if1 .if1 .left), ne-eqb _ 35 (at-if2 .if2 .left), (sym (at-opens-field .opens-field .ensures) ∙ at-if3 .if3 .left), ne-eqb _ 39 (c .before .before .if4 .left), ne-eqb _ 34 (c .before .if5 .left)) (c .word-at .ensures)
 
 pub lexeme-spec : {M : Type 1} → statement M
 lexeme-spec =

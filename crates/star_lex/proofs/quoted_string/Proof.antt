@@ -19,16 +19,20 @@ add-t10 c = search needs
 
 add-t11 : tie.Need-add-t11
 add-t11 c =
-    let w : c .before .quote-end .result + 1 ≤ length (c .before .before .before .args .file .now) = rw (c .before .quote-end .ensures)
-    (quote-within (c .before .before .before .args .file .now) (c .before .before .before .args .at) (c .before .before .before .pre .0) (c .before .before .before .args .quote) (c .before .before .before .args .kind) (c .before .before .before .pre .1 .1 .0) (λ e. c .if1 .left (c .before .quote-end .ensures ∙ e))) in
+    let start = c .before .before .before in
+    let w : c .before .quote-end .result + 1 ≤ length (start .args .file .now) = rw (c .before .quote-end .ensures)
+    (quote-within (start .args .file .now) (start .args .at) (start .pre .0) (start .args .quote) (start .args .kind) (start .pre .1 .1 .0) (λ e. c .if1 .left (c .before .quote-end .ensures ∙ e))) in
     omega arith
 
 returns : tie.Need-returns
-returns c = sym (quote-open (c .before .before .before .args .file .now) (c .before .before .before .args .at) (c .before .before .before .pre .0) (c .before .before .before .args .quote) (c .before .before .before .args .kind) (c .before .before .before .pre .1 .1 .0) (sym (c .before .quote-end .ensures) ∙ c .if1 .taken))
+returns c =
+    let start = c .before .before .before in
+    sym (quote-open (start .args .file .now) (start .args .at) (start .pre .0) (start .args .quote) (start .args .kind) (start .pre .1 .1 .0) (sym (c .before .quote-end .ensures) ∙ c .if1 .taken))
 
 returns-2 : tie.Need-returns-2
 returns-2 c =
-    rw (c .before .quote-end .ensures) (sym (quote-token (c .before .before .before .args .file .now) (c .before .before .before .args .at) (c .before .before .before .pre .0) (c .before .before .before .args .quote) (c .before .before .before .args .kind) (c .before .before .before .pre .1 .1 .0) (c .before .before .before .pre .1 .0)
+    let start = c .before .before .before in
+    rw (c .before .quote-end .ensures) (sym (quote-token (start .args .file .now) (start .args .at) (start .pre .0) (start .args .quote) (start .args .kind) (start .pre .1 .1 .0) (start .pre .1 .0)
     (λ e. c .if1 .left (c .before .quote-end .ensures ∙ e))))
 
 pub quoted-string-spec : {M : Type 1} → statement M

@@ -52,7 +52,8 @@ enum-known-found c = search needs
 
 loop-less : tie.Need-loop-less Inv-loop μ-loop
 loop-less c =
-    let at-lexeme = c .before .before .before .before .before in
+    let at-5 = c .before .before .before .before .before in
+    let at-lexeme = at-5 in
     let at-loop = at-lexeme .before .before in
     let start = at-loop .before .before .before in
     let t = turn-gap (start .args .file .now) (start .args .table .now) (at-loop .loop .table) (at-loop .loop .at) (at-loop .loop .count) (at-loop .loop .line) (at-loop .loop .inv) (omega arith) (c .before .found .given .0 .0) (sym (at-lexeme .lexeme .ensures) ∙ c .before .found .given .1) in
@@ -60,18 +61,21 @@ loop-less c =
 
 loop-again : tie.Need-loop-again Inv-loop μ-loop
 loop-again c =
-    let at-lexeme = c .before .before .before .before .before in
+    let at-3 = c .before .before .before in
+    let at-5 = at-3 .before .before in
+    let at-lexeme = at-5 in
     let at-loop = at-lexeme .before .before in
     let start = at-loop .before .before .before in
     let t = turn-gap (start .args .file .now) (start .args .table .now) (at-loop .loop .table) (at-loop .loop .at) (at-loop .loop .count) (at-loop .loop .line) (at-loop .loop .inv) (omega arith) (c .before .found .given .0 .0) (sym (at-lexeme .lexeme .ensures) ∙ c .before .found .given .1) in
-    rw (line-starts (c .before .before .before)) (t .0)
+    rw (line-starts (at-3)) (t .0)
 
 enum-known-found-2 : tie.Need-enum-known-found-2 Inv-loop μ-loop
 enum-known-found-2 c = search needs
 
 cast-put3 : tie.Need-cast-put3 Inv-loop μ-loop
 cast-put3 c =
-    let at-lexeme = c .before .before .before .before .before .before in
+    let at-6 = c .before .before .before .before .before .before in
+    let at-lexeme = at-6 in
     let at-loop = at-lexeme .before .before in
     let start = at-loop .before .before .before in
     let t = turn-token (start .args .file .now) (start .args .table .now) (at-loop .loop .table) (at-loop .loop .at) (at-loop .loop .count) (at-loop .loop .line) (at-loop .loop .inv) (omega arith) (c .before .before .found2 .given .0 .0) (c .before .before .found2 .given .0 .1 .0) (c .before .before .found2 .given .0 .1 .1 .0) (c .before .before .found2 .given .0 .1 .1 .1 .0) (sym (at-lexeme .lexeme .ensures) ∙ c .before .before .found2 .given .1) in
@@ -79,7 +83,8 @@ cast-put3 c =
 
 cast-put3-2 : tie.Need-cast-put3-2 Inv-loop μ-loop
 cast-put3-2 c =
-    let at-lexeme = c .before .before .before .before .before .before in
+    let at-6 = c .before .before .before .before .before .before in
+    let at-lexeme = at-6 in
     let at-loop = at-lexeme .before .before in
     let start = at-loop .before .before .before in
     let t = turn-token (start .args .file .now) (start .args .table .now) (at-loop .loop .table) (at-loop .loop .at) (at-loop .loop .count) (at-loop .loop .line) (at-loop .loop .inv) (omega arith) (c .before .before .found2 .given .0 .0) (c .before .before .found2 .given .0 .1 .0) (c .before .before .found2 .given .0 .1 .1 .0) (c .before .before .found2 .given .0 .1 .1 .1 .0) (sym (at-lexeme .lexeme .ensures) ∙ c .before .before .found2 .given .1) in
@@ -95,7 +100,8 @@ add-count c =
 
 loop-less-2 : tie.Need-loop-less-2 Inv-loop μ-loop
 loop-less-2 c =
-    let at-found2 = c .before .before .before .before .before in
+    let at-5 = c .before .before .before .before .before in
+    let at-found2 = at-5 in
     let at-lexeme = at-found2 .before .before .before .before in
     let at-loop = at-lexeme .before .before in
     let start = at-loop .before .before .before in
@@ -104,12 +110,14 @@ loop-less-2 c =
 
 loop-again-2 : tie.Need-loop-again-2 Inv-loop μ-loop
 loop-again-2 c =
-    let at-found2 = c .before .before .before .before .before in
+    let at-5 = c .before .before .before .before .before in
+    let at-7 = at-5 .before .before in
+    let at-found2 = at-5 in
     let at-lexeme = at-found2 .before .before .before .before in
     let at-loop = at-lexeme .before .before in
     let start = at-loop .before .before .before in
     let t = turn-token (start .args .file .now) (start .args .table .now) (at-loop .loop .table) (at-loop .loop .at) (at-loop .loop .count) (at-loop .loop .line) (at-loop .loop .inv) (omega arith) (at-found2 .found2 .given .0 .0) (at-found2 .found2 .given .0 .1 .0) (at-found2 .found2 .given .0 .1 .1 .0) (at-found2 .found2 .given .0 .1 .1 .1 .0) (sym (at-lexeme .lexeme .ensures) ∙ at-found2 .found2 .given .1) in
-    rw (c .before .before .put3 .ensures, line-starts (c .before .before .before .before .before .before .before)) (t .0)
+    rw (c .before .before .put3 .ensures, line-starts (at-7)) (t .0)
 
 enum-known-found-3 : tie.Need-enum-known-found-3 Inv-loop μ-loop
 enum-known-found-3 c = search needs
@@ -132,7 +140,8 @@ answer n = record { refusal = 0; place = 0; count = n }
 returns : tie.Need-returns Inv-loop μ-loop
 unfolding splitAnswer refusalOf placeOf placed
 returns c =
-    let at-lexeme = c .before .before .before .before .before in
+    let at-5 = c .before .before .before .before .before in
+    let at-lexeme = at-5 in
     let at-loop = at-lexeme .before .before in
     let start = at-loop .before .before .before in
     let f = turn-fault (start .args .file .now) (start .args .table .now) (at-loop .loop .table) (at-loop .loop .at) (at-loop .loop .count) (at-loop .loop .line) (at-loop .loop .inv) (omega arith) (c .before .found3 .given .0 .0) (sym (at-lexeme .lexeme .ensures) ∙ c .before .found3 .given .1) in

@@ -60,14 +60,16 @@ same-length-4 c = c .before .before .before .before .loop .inv .4
 
 returns : tie.Need-returns Inv-loop μ-loop
 returns c =
-    let l = c .before .before .before .before .loop in
+    let at-loop = c .before .before .before .before in
+    let start = at-loop .before .before .before .before .before .before .before in
+    let l = at-loop .loop in
     let e = sym (c .before .sort-at .ensures .is) ∙ c .if2 .taken in
     let k = l .inv .5 .goes (c .before .before .if1 .taken) in
     record {
       accepts = λ going. record {
         rows = k .rows;
         matches = k .matches;
-        all = omega (arith, l .inv .0, at-end (c .before .before .before .before .before .before .before .before .before .before .before .args .count) (c .before .before .before .before .before .before .before .before .before .before .before .args .tokens .now) (l .p .at) e);
+        all = omega (arith, l .inv .0, at-end (start .args .count) (start .args .tokens .now) (l .p .at) e);
         is = sym (accepts _ _ _ k e);
       };
       refuses = λ n. absurd (n (c .before .before .if1 .taken));
@@ -98,7 +100,11 @@ returns-2 c =
 
 read-block-requires : tie.Need-read-block-requires Inv-loop μ-loop
 read-block-requires c κs =
-    (record { going = c .before .before .before .before .before .before .before .if1 .taken; bounds = c .before .before .before .before .before .before .before .before .before .loop .inv .0 }, ahead-is _ _ _ _ _ (c .before .before .before .before .before .before .sort-at .ensures) (c .before .before .before .before .if3 .left) (omega arith))
+    let at-if3 = c .before .before .before .before in
+    let at-sort-at = at-if3 .before .before in
+    let at-if1 = at-sort-at .before in
+    let at-loop = at-if1 .before .before in
+    (record { going = at-if1 .if1 .taken; bounds = at-loop .loop .inv .0 }, ahead-is _ _ _ _ _ (at-sort-at .sort-at .ensures) (at-if3 .if3 .left) (omega arith))
 
 loop-less : tie.Need-loop-less Inv-loop μ-loop
 loop-less c = omega (arith, c .before .before .before .before .before .before .before .before .read-block .ensures .bounds, c .before .before .before .before .before .before .before .before .read-block .ensures .further)

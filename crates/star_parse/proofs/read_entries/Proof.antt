@@ -50,7 +50,11 @@ loop-again c =
 
 read-loop-requires : tie.Need-read-loop-requires Inv-loop μ-loop
 read-loop-requires c κs =
-    (record { going = c .before .before .before .before .before .before .if1 .taken; bounds = c .before .before .before .before .before .before .before .before .loop .inv .0 }, ahead-is _ _ _ _ _ (c .before .before .before .before .before .sort-at .ensures) (c .before .before .before .if3 .taken) (omega arith))
+    let at-if3 = c .before .before .before in
+    let at-sort-at = at-if3 .before .before in
+    let at-if1 = at-sort-at .before in
+    let at-loop = at-if1 .before .before in
+    (record { going = at-if1 .if1 .taken; bounds = at-loop .loop .inv .0 }, ahead-is _ _ _ _ _ (at-sort-at .sort-at .ensures) (at-if3 .if3 .taken) (omega arith))
 
 loop-less-2 : tie.Need-loop-less-2 Inv-loop μ-loop
 loop-less-2 c = omega (arith, c .before .before .before .before .before .before .read-loop .ensures .bounds, c .before .before .before .before .before .before .read-loop .ensures .further)

@@ -64,7 +64,11 @@ same-length-4 : tie.Need-same-length-4
 same-length-4 c = search needs
 
 returns : tie.Need-returns
-returns c = record { sets = c .before .before .before .before .before .before .before .before .before .before .before .before .before .before .before .before .before .clear-from .ensures; names = c .before .before .before .before .before .before .before .before .before .before .before .before .clear-from2 .ensures; packets = c .before .before .before .before .before .before .before .clear-from3 .ensures; values = c .before .before .clear-from4 .ensures }
+returns c =
+    let at-clear-from3 = c .before .before .before .before .before .before .before in
+    let at-clear-from2 = at-clear-from3 .before .before .before .before .before in
+    let at-clear-from = at-clear-from2 .before .before .before .before .before in
+    record { sets = at-clear-from .clear-from .ensures; names = at-clear-from2 .clear-from2 .ensures; packets = at-clear-from3 .clear-from3 .ensures; values = c .before .before .clear-from4 .ensures }
 
 pub clear-behind-spec : {M : Type 1} → statement M
 clear-behind-spec =

@@ -78,7 +78,8 @@ same-length-5 c = search needs
 
 returns : tie.Need-returns
 returns c =
-    let refused = c .before .before .before .before .before .before .before .before .before .before in
+    let at-10 = c .before .before .before .before .before .before .before .before .before .before in
+    let refused = at-10 in
     let judged = refused-at refused in
     let read = rows-read judged in
     let at = entry read in

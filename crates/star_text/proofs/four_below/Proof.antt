@@ -60,10 +60,17 @@ returns-4 : tie.Need-returns-4
 returns-4 c = never
 
 returns-5 : tie.Need-returns-5
-returns-5 c = λ e. each-of-four (λ k. belowIn (start c .args .classes .now) (start c .args .class) (getD (start c .args .file .now) (start c .args .at + k) 0) ≡ true)
-    (rw (add-zero, ← c .before .before .before .before .before .before .before .before .before .before .class-of .ensures) (lt-ltb (c .before .before .before .before .before .before .before .before .before .before .class-of .result) (start c .args .class) (c .before .before .before .before .before .before .before .before .before .if1 .left)))
-    (rw (← c .before .before .before .before .before .before .before .class-of2 .ensures) (lt-ltb (c .before .before .before .before .before .before .before .class-of2 .result) (start c .args .class) (c .before .before .before .before .before .before .if2 .left)))
-    (rw (← c .before .before .before .before .class-of3 .ensures) (lt-ltb (c .before .before .before .before .class-of3 .result) (start c .args .class) (c .before .before .before .if3 .left)))
+returns-5 c =
+    let at-if3 = c .before .before .before in
+    let at-class-of3 = at-if3 .before in
+    let at-if2 = at-class-of3 .before .before in
+    let at-class-of2 = at-if2 .before in
+    let at-if1 = at-class-of2 .before .before in
+    let at-class-of = at-if1 .before in
+    λ e. each-of-four (λ k. belowIn (start c .args .classes .now) (start c .args .class) (getD (start c .args .file .now) (start c .args .at + k) 0) ≡ true)
+    (rw (add-zero, ← at-class-of .class-of .ensures) (lt-ltb (at-class-of .class-of .result) (start c .args .class) (at-if1 .if1 .left)))
+    (rw (← at-class-of2 .class-of2 .ensures) (lt-ltb (at-class-of2 .class-of2 .result) (start c .args .class) (at-if2 .if2 .left)))
+    (rw (← at-class-of3 .class-of3 .ensures) (lt-ltb (at-class-of3 .class-of3 .result) (start c .args .class) (at-if3 .if3 .left)))
     (rw (← c .before .class-of4 .ensures) (lt-ltb (c .before .class-of4 .result) (start c .args .class) (c .if4 .left)))
 
 pub four-below-spec : {M : Type 1} → statement M

@@ -27,8 +27,10 @@ same-length c = search needs
 
 returns : tie.Need-returns
 returns c =
-    let start = c .before .before .before .before .before .before .before .before .before .before .before .before in
-    (c .before .before .before .before .before .before .before .mark .ensures .0, c .before .before .unmark .ensures ∙ ap (heldTable (start .args .file .now)) (c .before .before .before .before .before .before .before .mark .kept .1 .0) ∙ sym (start .pre .rows))
+    let at-mark = c .before .before .before .before .before .before .before in
+    let at-12 = at-mark .before .before .before .before .before in
+    let start = at-12 in
+    (at-mark .mark .ensures .0, c .before .before .unmark .ensures ∙ ap (heldTable (start .args .file .now)) (at-mark .mark .kept .1 .0) ∙ sym (start .pre .rows))
 
 pub first-repeat-spec : {M : Type 1} → statement M
 first-repeat-spec =

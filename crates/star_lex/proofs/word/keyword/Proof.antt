@@ -51,9 +51,11 @@ begins-requires-2 c κs = search needs
 returns-3 : tie.Need-returns-3
 unfolding dataWord saveWord loopWord stopWord globalWord frameWord wordAnswer
 returns-3 c =
-    let at-begins = c .before .before .before .before .before in
+    let at-if1 = c .before .before .before .before in
+    let at-5 = at-if1 .before in
+    let at-begins = at-5 in
     let start = at-begins .before .before .before in
-    λ more. sym (ap wordAnswer (word-save today more _ (sym (at-begins .begins .ensures) ∙ c .before .before .before .before .if1 .left) (sym (c .before .before .begins2 .ensures) ∙ c .before .if3 .taken) ∙ ap (frameWord today more) (drop-of-length-le (start .args .word .now) (le-of-eq (c .if4 .taken)))))
+    λ more. sym (ap wordAnswer (word-save today more _ (sym (at-begins .begins .ensures) ∙ at-if1 .if1 .left) (sym (c .before .before .begins2 .ensures) ∙ c .before .if3 .taken) ∙ ap (frameWord today more) (drop-of-length-le (start .args .word .now) (le-of-eq (c .if4 .taken)))))
 
 sub-limit-2 : tie.Need-sub-limit-2
 unfolding dataWord saveWord loopWord stopWord globalWord
@@ -90,13 +92,15 @@ alone-requires c κs = search needs
 returns-5 : tie.Need-returns-5
 unfolding dataWord saveWord loopWord stopWord globalWord
 returns-5 c =
-    let at-begins2 = c .before .before .before .before .before in
+    let at-if3 = c .before .before .before .before in
+    let at-5 = at-if3 .before in
+    let at-begins2 = at-5 in
     let at-if1 = at-begins2 .before .before in
     let at-begins = at-if1 .before in
     let start = at-begins .before .before .before in
     λ more.
     let w = start .args .word .now in
-    c .alone .ensures more loopWord (drop 5 w) (length-drop 5 w) ∙ sym (ap wordAnswer (word-loop today more w (sym (at-begins .begins .ensures) ∙ at-if1 .if1 .left) (sym (at-begins2 .begins2 .ensures) ∙ c .before .before .before .before .if3 .left) (sym (c .before .before .begins3 .ensures) ∙ c .before .if5 .taken)))
+    c .alone .ensures more loopWord (drop 5 w) (length-drop 5 w) ∙ sym (ap wordAnswer (word-loop today more w (sym (at-begins .begins .ensures) ∙ at-if1 .if1 .left) (sym (at-begins2 .begins2 .ensures) ∙ at-if3 .if3 .left) (sym (c .before .before .begins3 .ensures) ∙ c .before .if5 .taken)))
 
 slice-aggregate-begins-4 : tie.Need-slice-aggregate-begins-4
 slice-aggregate-begins-4 c = search needs
@@ -114,7 +118,9 @@ alone-requires-2 c κs = search needs
 returns-6 : tie.Need-returns-6
 unfolding dataWord saveWord loopWord stopWord globalWord
 returns-6 c =
-    let at-begins3 = c .before .before .before .before .before in
+    let at-if5 = c .before .before .before .before in
+    let at-5 = at-if5 .before in
+    let at-begins3 = at-5 in
     let at-if3 = at-begins3 .before .before in
     let at-begins2 = at-if3 .before in
     let at-if1 = at-begins2 .before .before in
@@ -122,7 +128,7 @@ returns-6 c =
     let start = at-begins .before .before .before in
     λ more.
     let w = start .args .word .now in
-    c .alone2 .ensures more stopWord (drop 5 w) (length-drop 5 w) ∙ sym (ap wordAnswer (word-stop today more w (sym (at-begins .begins .ensures) ∙ at-if1 .if1 .left) (sym (at-begins2 .begins2 .ensures) ∙ at-if3 .if3 .left) (sym (at-begins3 .begins3 .ensures) ∙ c .before .before .before .before .if5 .left) (sym (c .before .before .begins4 .ensures) ∙ c .before .if6 .taken)))
+    c .alone2 .ensures more stopWord (drop 5 w) (length-drop 5 w) ∙ sym (ap wordAnswer (word-stop today more w (sym (at-begins .begins .ensures) ∙ at-if1 .if1 .left) (sym (at-begins2 .begins2 .ensures) ∙ at-if3 .if3 .left) (sym (at-begins3 .begins3 .ensures) ∙ at-if5 .if5 .left) (sym (c .before .before .begins4 .ensures) ∙ c .before .if6 .taken)))
 
 slice-aggregate-begins-5 : tie.Need-slice-aggregate-begins-5
 slice-aggregate-begins-5 c = search needs
@@ -140,7 +146,9 @@ alone-requires-3 c κs = search needs
 returns-7 : tie.Need-returns-7
 unfolding dataWord saveWord loopWord stopWord globalWord
 returns-7 c =
-    let at-begins4 = c .before .before .before .before .before in
+    let at-if6 = c .before .before .before .before in
+    let at-5 = at-if6 .before in
+    let at-begins4 = at-5 in
     let at-if5 = at-begins4 .before .before in
     let at-begins3 = at-if5 .before in
     let at-if3 = at-begins3 .before .before in
@@ -150,19 +158,22 @@ returns-7 c =
     let start = at-begins .before .before .before in
     λ more.
     let w = start .args .word .now in
-    c .alone3 .ensures more globalWord (drop 7 w) (length-drop 7 w) ∙ sym (ap wordAnswer (word-global today more w (sym (at-begins .begins .ensures) ∙ at-if1 .if1 .left) (sym (at-begins2 .begins2 .ensures) ∙ at-if3 .if3 .left) (sym (at-begins3 .begins3 .ensures) ∙ at-if5 .if5 .left) (sym (at-begins4 .begins4 .ensures) ∙ c .before .before .before .before .if6 .left) (sym (c .before .before .begins5 .ensures) ∙ c .before .if7 .taken)))
+    c .alone3 .ensures more globalWord (drop 7 w) (length-drop 7 w) ∙ sym (ap wordAnswer (word-global today more w (sym (at-begins .begins .ensures) ∙ at-if1 .if1 .left) (sym (at-begins2 .begins2 .ensures) ∙ at-if3 .if3 .left) (sym (at-begins3 .begins3 .ensures) ∙ at-if5 .if5 .left) (sym (at-begins4 .begins4 .ensures) ∙ at-if6 .if6 .left) (sym (c .before .before .begins5 .ensures) ∙ c .before .if7 .taken)))
 
 returns-8 : tie.Need-returns-8
 unfolding dataWord saveWord loopWord stopWord globalWord wordAnswer
 returns-8 c =
-    let at-if5 = c .before .before .before .before .before .before in
+    let at-if6 = c .before .before .before in
+    let at-begins4 = at-if6 .before in
+    let at-6 = at-begins4 .before .before in
+    let at-if5 = at-6 in
     let at-begins3 = at-if5 .before in
     let at-if3 = at-begins3 .before .before in
     let at-begins2 = at-if3 .before in
     let at-if1 = at-begins2 .before .before in
     let at-begins = at-if1 .before in
     let start = at-begins .before .before .before in
-    λ more. sym (ap wordAnswer (word-ordinary today more _ (record { no-data = sym (at-begins .begins .ensures) ∙ at-if1 .if1 .left; no-save = sym (at-begins2 .begins2 .ensures) ∙ at-if3 .if3 .left; no-loop = sym (at-begins3 .begins3 .ensures) ∙ at-if5 .if5 .left; no-stop = sym (c .before .before .before .before .begins4 .ensures) ∙ c .before .before .before .if6 .left; no-global = sym (c .before .begins5 .ensures) ∙ c .if7 .left }) (start .pre .0) (start .pre .1)))
+    λ more. sym (ap wordAnswer (word-ordinary today more _ (record { no-data = sym (at-begins .begins .ensures) ∙ at-if1 .if1 .left; no-save = sym (at-begins2 .begins2 .ensures) ∙ at-if3 .if3 .left; no-loop = sym (at-begins3 .begins3 .ensures) ∙ at-if5 .if5 .left; no-stop = sym (at-begins4 .begins4 .ensures) ∙ at-if6 .if6 .left; no-global = sym (c .before .begins5 .ensures) ∙ c .if7 .left }) (start .pre .0) (start .pre .1)))
 
 pub keyword-spec : {M : Type 1} → statement M
 keyword-spec =

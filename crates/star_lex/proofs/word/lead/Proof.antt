@@ -26,11 +26,19 @@ returns-5 c = rw (ne-eqb _ 1 (c .before .before .before .before .if1 .left), ne-
 
 returns-6 : tie.Need-returns-6
 unfolding opening dataWord saveWord
-returns-6 c = rw (ne-eqb _ 1 (c .before .before .before .before .before .if1 .left), ne-eqb _ 2 (c .before .before .before .before .if2 .left), ne-eqb _ 8 (c .before .before .before .if3 .left), ne-eqb _ 9 (c .before .before .if4 .left), ne-eqb _ 10 (c .before .if5 .left), eq-eqb _ 11 (c .if6 .taken))
+returns-6 c =
+    let at-if3 = c .before .before .before in
+    let at-if2 = at-if3 .before in
+    let at-if1 = at-if2 .before in
+    rw (ne-eqb _ 1 (at-if1 .if1 .left), ne-eqb _ 2 (at-if2 .if2 .left), ne-eqb _ 8 (at-if3 .if3 .left), ne-eqb _ 9 (c .before .before .if4 .left), ne-eqb _ 10 (c .before .if5 .left), eq-eqb _ 11 (c .if6 .taken))
 
 returns-7 : tie.Need-returns-7
 unfolding opening dataWord saveWord
-returns-7 c = rw (ne-eqb _ 1 (c .before .before .before .before .before .if1 .left), ne-eqb _ 2 (c .before .before .before .before .if2 .left), ne-eqb _ 8 (c .before .before .before .if3 .left), ne-eqb _ 9 (c .before .before .if4 .left), ne-eqb _ 10 (c .before .if5 .left), ne-eqb _ 11 (c .if6 .left))
+returns-7 c =
+    let at-if3 = c .before .before .before in
+    let at-if2 = at-if3 .before in
+    let at-if1 = at-if2 .before in
+    rw (ne-eqb _ 1 (at-if1 .if1 .left), ne-eqb _ 2 (at-if2 .if2 .left), ne-eqb _ 8 (at-if3 .if3 .left), ne-eqb _ 9 (c .before .before .if4 .left), ne-eqb _ 10 (c .before .if5 .left), ne-eqb _ 11 (c .if6 .left))
 
 pub lead-spec : {M : Type 1} → statement M
 lead-spec =

@@ -112,21 +112,29 @@ add-t24 c = omega (arith, c .before .before .before .before .before .before .bef
 
 read-packets-requires : tie.Need-read-packets-requires Inv-loop μ-loop
 read-packets-requires c κs =
-    let l = c .before .before .before .before .before .before .before .before .before .before .loop in
-    let level = c .before .before .before .before .before .before .before .before .read-names in (
+    let at-sort-at = c .before .before .before .before in
+    let at-read-names = at-sort-at .before .before .before .before in
+    let at-loop = at-read-names .before .before in
+    let at-opened = at-loop .before .before in
+    let start = at-opened .before .before .before .before .before in
+    let l = at-loop .loop in
+    let level = at-read-names .read-names in (
       level .ensures .ready,
       (
-        record { loop = λ h. c .before .before .if2 .taken (c .before .before .before .before .sort-at .ensures .is ∙ h); name = level .ensures .last },
+        record { loop = λ h. c .before .before .if2 .taken (at-sort-at .sort-at .ensures .is ∙ h); name = level .ensures .last },
         (
           loop-in (l .counts) (l .level) _ (l .inv .3) (l .inv .2) _ (l .inv .4) (omega (arith, level .ensures .ready))
-              (omega (arith, c .before .before .before .before .before .before .before .before .before .before .before .before .before .before .before .before .before .pre, c .before .before .before .before .before .before .before .before .before .before .before .before .opened .ensures)),
+              (omega (arith, start .pre, at-opened .opened .ensures)),
           record { level = refl; filled = refl; parent = refl },
         ),
       ),
     )
 
 same-length-4 : tie.Need-same-length-4 Inv-loop μ-loop
-same-length-4 c = c .before .before .before .before .before .before .before .before .before .before .before .before .before .read-names .kept .1 .1 .1 .1 .1 .0 ∙ c .before .before .before .before .before .before .before .before .before .before .before .before .before .before .before .loop .inv .5
+same-length-4 c =
+    let at-read-names = c .before .before .before .before .before .before .before .before .before .before .before .before .before in
+    let at-loop = at-read-names .before .before in
+    at-read-names .read-names .kept .1 .1 .1 .1 .1 .0 ∙ at-loop .loop .inv .5
 
 same-length-5 : tie.Need-same-length-5 Inv-loop μ-loop
 same-length-5 c = c .before .before .before .before .read-packets .kept .1 .1 .1 .1 .0 ∙ c .before .before .before .before .before .before .before .before .before .before .before .before .before .before .before .loop .inv .6
@@ -136,16 +144,23 @@ same-length-6 c = c .before .before .before .before .read-packets .kept .1 .1 .1
 
 returns-2 : tie.Need-returns-2 Inv-loop μ-loop
 returns-2 c =
-    let s = c .before .before .before .before .before .before .before .before .before .before .before .before .before .before .before .before .before .before .before .before .before .before in
-    let l = c .before .before .before .before .before .before .before .before .before .before .before .before .before .before .before .loop in
-    let level = c .before .before .before .before .before .before .before .before .before .before .before .before .before .read-names in
+    let at-read-packets = c .before .before .before .before in
+    let at-if1 = at-read-packets .before .before .before .before in
+    let at-10 = at-if1 .before .before in
+    let at-read-names = at-10 .before .before .before in
+    let at-loop = at-read-names .before .before in
+    let at-opened = at-loop .before .before in
+    let at-22 = at-opened .before .before .before .before .before in
+    let s = at-22 in
+    let l = at-loop .loop in
+    let level = at-read-names .read-names in
     record {
-      bounds = c .before .before .before .before .read-packets .ensures .bounds;
-      further = omega (arith, c .before .before .before .before .before .before .before .before .before .before .before .before .before .before .before .before .before .opened .ensures, l .inv .1, level .ensures .further, c .before .before .before .before .read-packets .ensures .further);
+      bounds = at-read-packets .read-packets .ensures .bounds;
+      further = omega (arith, at-opened .opened .ensures, l .inv .1, level .ensures .further, at-read-packets .read-packets .ensures .further);
       goes = λ w sets q before outcome a.
-          c .before .before .before .before .read-packets .ensures .goes w _ _ sets _
-          (header-in (l .counts) (l .level) (level .result .names - l .p .names) (l .inv .3) (l .inv .2) _ (omega (arith, c .before .before .before .before .before .before .before .before .if1 .left))) before outcome
-          (named (c .before .before .before .before .before .before .before .before .before .before) w sets q before outcome (over-loop _ _ _ a (s .pre .1 .is) (c .before .before .before .before .before .before .before .before .before .before .before .before .before .before .before .before .before .opened .ensures)));
+          at-read-packets .read-packets .ensures .goes w _ _ sets _
+          (header-in (l .counts) (l .level) (level .result .names - l .p .names) (l .inv .3) (l .inv .2) _ (omega (arith, at-if1 .if1 .left))) before outcome
+          (named (at-10) w sets q before outcome (over-loop _ _ _ a (s .pre .1 .is) (at-opened .opened .ensures)));
     }
 
 add-if3 : tie.Need-add-if3 Inv-loop μ-loop
@@ -165,16 +180,23 @@ same-length-9 c = c .before .before .before .before .before .before .before .bef
 
 returns-3 : tie.Need-returns-3 Inv-loop μ-loop
 returns-3 c =
-    let s = c .before .before .before .before .before .before .before .before .before .before .before .before .before .before .before .before .before in
-    let l = c .before .before .before .before .before .before .before .before .before .before .loop in
-    let level = c .before .before .before .before .before .before .before .before .read-names in
-    let e = c .before .before .before .before .sort-at .ensures .is in
+    let at-if1 = c .before .before .before in
+    let at-sort-at = at-if1 .before in
+    let at-5 = at-sort-at .before in
+    let at-read-names = at-5 .before .before .before in
+    let at-loop = at-read-names .before .before in
+    let at-opened = at-loop .before .before in
+    let at-17 = at-opened .before .before .before .before .before in
+    let s = at-17 in
+    let l = at-loop .loop in
+    let level = at-read-names .read-names in
+    let e = at-sort-at .sort-at .ensures .is in
     record {
       bounds = omega (arith, level .ensures .ready, c .misplaced2 .ensures);
-      further = omega (arith, c .before .before .before .before .before .before .before .before .before .before .before .before .opened .ensures, l .inv .1, level .ensures .further, c .misplaced2 .ensures);
+      further = omega (arith, at-opened .opened .ensures, l .inv .1, level .ensures .further, c .misplaced2 .ensures);
       goes = λ w sets q before outcome a.
-          refused _ _ _ 11 _ (omega arith) (named (c .before .before .before .before .before) w sets q before outcome (over-loop _ _ _ a (s .pre .1 .is) (c .before .before .before .before .before .before .before .before .before .before .before .before .opened .ensures))) e
-          (deepest-refuses w _ _ (level .result .names - l .p .names) _ (omega (arith, c .before .before .before .if1 .left))
+          refused _ _ _ 11 _ (omega arith) (named (at-5) w sets q before outcome (over-loop _ _ _ a (s .pre .1 .is) (at-opened .opened .ensures))) e
+          (deepest-refuses w _ _ (level .result .names - l .p .names) _ (omega (arith, at-if1 .if1 .left))
           (omega (arith, outers-length (l .counts) (l .level) 0 (l .inv .3) (l .inv .2), c .before .if3 .taken)) (sym e ∙ c .before .before .if2 .left))
           (c .misplaced2 .ensures);
     }

@@ -54,13 +54,19 @@ returns c =
     }
 
 add-put-value : tie.Need-add-put-value Inv-loop μ-loop
-add-put-value c = omega (arith, c .before .before .before .before .before .before .before .before .before .pre .1 .0, c .before .before .before .before .before .before .before .before .before .pre .1 .0 .few (c .before .before .before .before .before .before .before .before .before .args .s .level), c .before .before .before .if1 .taken)
+add-put-value c =
+    let at-if1 = c .before .before .before in
+    let start = at-if1 .before .before .before .before .before .before in
+    omega (arith, start .pre .1 .0, start .pre .1 .0 .few (start .args .s .level), at-if1 .if1 .taken)
 
 put-value-requires : tie.Need-put-value-requires Inv-loop μ-loop
 put-value-requires c κs = omega (arith, c .before .before .before .before .before .before .loop .inv .0)
 
 add-s : tie.Need-add-s Inv-loop μ-loop
-add-s c = omega (arith, c .before .before .before .before .before .before .before .before .before .before .before .before .before .before .pre .1 .0 .few (c .before .before .before .before .before .before .before .before .before .before .before .before .before .before .args .s .level), c .before .before .before .before .before .before .before .before .if1 .taken)
+add-s c =
+    let at-if1 = c .before .before .before .before .before .before .before .before in
+    let start = at-if1 .before .before .before .before .before .before in
+    omega (arith, start .pre .1 .0 .few (start .args .s .level), at-if1 .if1 .taken)
 
 loop-less : tie.Need-loop-less Inv-loop μ-loop
 loop-less c = omega (arith, c .before .before .before .before .before .before .before .before .if1 .taken)

@@ -58,8 +58,11 @@ put-token-requires c κs =
 
 add-at : tie.Need-add-at Inv-loop μ-loop
 add-at c =
-    let t = turn (c .before .before .before .before) in
-    omega (arith, t .within, t .sum, c .before .before .before .before .before .before .before .loop .inv .1 .counts, c .before .before .put-token .ensures .counts, c .before .before .before .before .before .before .before .before .before .before .before .pre .1)
+    let at-4 = c .before .before .before .before in
+    let at-loop = at-4 .before .before .before in
+    let start = at-loop .before .before .before .before in
+    let t = turn (at-4) in
+    omega (arith, t .within, t .sum, at-loop .loop .inv .1 .counts, c .before .before .put-token .ensures .counts, start .pre .1)
 
 add-n : tie.Need-add-n Inv-loop μ-loop
 add-n c = omega arith

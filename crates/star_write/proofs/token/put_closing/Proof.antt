@@ -1,77 +1,55 @@
--- `put_closing` meets its contract: the kind tells the bytes.
+-- `put_closing` meets its contract: as many bytes are put as stand after the content.
+use mathlib.Core.Path.{_≡_, _∙_, ap}
+use Prim.Native.Nat.{_-_}
+use native.Mathlib.Nat.{sub-zero}
 use native.Mathlib.Omega.{arith}
 use borrow.Author.Needs.{needs}
-use borrow.Author.Tests.{ne-eqb}
-use Rattle.star_lex.specs.Plain.{newline, closing}
-use Rattle.star_write.proofs.Putting.{put-none}
+use lib.ListN.{length, take}
+use Rattle.star_lex.specs.Plain.{closing}
+use Rattle.star_write.proofs.Putting.{put-same}
 use Rattle.star_write.proofs.token.put_closing.Statement.{statement}
 use Rattle.star_write.proofs.token.put_closing.Tie as tie
 
-slice-aggregate-put-bytes : tie.Need-slice-aggregate-put-bytes
-slice-aggregate-put-bytes c = search needs
+closing-bytes-requires : tie.Need-closing-bytes-requires
+closing-bytes-requires c κs = search needs
+
+closing-length-requires : tie.Need-closing-length-requires
+closing-length-requires c κs = search needs
+
+sub-put-bytes : tie.Need-sub-put-bytes
+sub-put-bytes c = omega arith
+
+part-put-bytes-start : tie.Need-part-put-bytes-start
+part-put-bytes-start c = omega arith
+
+part-put-bytes-end : tie.Need-part-put-bytes-end
+part-put-bytes-end c = omega (arith, c .before .closing-length .ensures, c .before .before .before .closing-bytes .ensures .1)
+
+-- the bytes that are put
+put : (c : tie.After-put-bytes-arg2)
+    → take (c .before .before .closing-length .result - 0) (c .before .before .before .before .closing-bytes .result) ≡ closing (c .before .before .before .before .before .before .before .args .kind) (c .before .before .before .before .before .before .before .args .content .now)
+put c =
+    ap (λ n. take n (c .before .before .before .before .closing-bytes .result)) (sub-zero _ ∙ c .before .before .closing-length .ensures)
+    ∙ c .before .before .before .before .closing-bytes .ensures .0
 
 put-bytes-requires : tie.Need-put-bytes-requires
-unfolding closing newline
-put-bytes-requires c κs = omega (arith, rw (c .before .before .match .keys1) at (c .before .before .before .before .before .pre))
-
-slice-aggregate-put-bytes-2 : tie.Need-slice-aggregate-put-bytes-2
-slice-aggregate-put-bytes-2 c = search needs
-
-put-bytes-requires-2 : tie.Need-put-bytes-requires-2
-unfolding closing newline
-put-bytes-requires-2 c κs = omega (arith, rw (c .before .before .match .keys2) at (c .before .before .before .before .before .pre))
-
-slice-aggregate-put-bytes-3 : tie.Need-slice-aggregate-put-bytes-3
-slice-aggregate-put-bytes-3 c = search needs
-
-put-bytes-requires-3 : tie.Need-put-bytes-requires-3
-unfolding closing newline
-put-bytes-requires-3 c κs = omega (arith, rw (c .before .before .match .keys3) at (c .before .before .before .before .before .pre))
+put-bytes-requires c κs = omega (arith, ap length (put c), c .before .before .before .before .before .before .before .pre)
 
 same-length : tie.Need-same-length
 same-length c = search needs
 
 returns : tie.Need-returns
-unfolding closing newline
-returns c = rw (c .before .before .before .before .before .match .keys1) (c .before .before .put-bytes .ensures)
-
-same-length-2 : tie.Need-same-length-2
-same-length-2 c = search needs
-
-returns-2 : tie.Need-returns-2
-unfolding closing newline
-returns-2 c = rw (c .before .before .before .before .before .match .keys2) (c .before .before .put-bytes2 .ensures)
-
-same-length-3 : tie.Need-same-length-3
-same-length-3 c = search needs
-
-returns-3 : tie.Need-returns-3
-unfolding closing newline
-returns-3 c = rw (c .before .before .before .before .before .match .keys3) (c .before .before .put-bytes3 .ensures)
-
-returns-4 : tie.Need-returns-4
-unfolding closing newline
-returns-4 c =
-    rw (
-      ne-eqb _ 9 (c .match .rest .0 .0 .1),
-      ne-eqb _ 10 (c .match .rest .0 .1),
-      ne-eqb _ 11 (c .match .rest .1),
-    ) (put-none _ _)
+returns c = put-same (put (c .before .before .before)) (c .before .before .put-bytes .ensures)
 
 pub put-closing-spec : {M : Type 1} → statement M
 put-closing-spec =
     tie.close
     (tie.spec
-    slice-aggregate-put-bytes
+    closing-bytes-requires
+    closing-length-requires
+    sub-put-bytes
+    part-put-bytes-start
+    part-put-bytes-end
     put-bytes-requires
-    slice-aggregate-put-bytes-2
-    put-bytes-requires-2
-    slice-aggregate-put-bytes-3
-    put-bytes-requires-3
     same-length
-    returns
-    same-length-2
-    returns-2
-    same-length-3
-    returns-3
-    returns-4)
+    returns)
