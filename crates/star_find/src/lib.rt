@@ -132,7 +132,7 @@ fn has_part(file: &[u8], tokens: &[u32], count: u32, row: u32) -> bool
 }
 
 // The part of the file that a token row has; it is empty, at the file's start, where the row or its span points outside.
-fn part<'a, 'b>(file: &'a [u8], tokens: &'b [u32], count: u32, row: u32) -> &'a [u8]
+pub fn part<'a, 'b>(file: &'a [u8], tokens: &'b [u32], count: u32, row: u32) -> &'a [u8]
     ensures { λ r. ⌜ now r ≡ orEmpty (contentAt (now (file .entry)) (now (tokens .entry)) count row) ⌝ }
     ensures { λ r. ⌜ ptr r ≡ further (ptr (file .entry)) (cond (isSome (contentAt (now (file .entry)) (now (tokens .entry)) count row))
         (wordOf (now (tokens .entry)) tokenWidth row 1) 0) ⌝ }
@@ -396,7 +396,7 @@ fn value_row(values: &[u32], rows: u32, name: u32, k: u32) -> u32
 }
 
 // The value that is asked for, by its packet and its token row, or its refusal.
-fn locate(
+pub fn locate(
     file: &[u8],
     tokens: &[u32],
     sets: &[u32],

@@ -91,6 +91,15 @@ module _ (p : ℕ → Bool) where
   run-all [] e = refl
   run-all (x ∷ xs) e = rw (all-head x xs e, run-all xs (all-tail x xs e))
 
+  pub run-passes : (xs : List ℕ) → all p (leading p xs) ≡ true
+  unfolding all leading
+  run-passes [] = refl
+  run-passes (x ∷ xs) = go (p x) refl (run-passes xs)
+    where
+      go : (t : Bool) → p x ≡ t → all p (leading p xs) ≡ true → all p (cond t (x ∷ leading p xs) []) ≡ true
+      go true e h = rw (e, h)
+      go false e h = refl
+
   pub run-append-drop : (xs : List ℕ) → xs ≡ leading p xs ++ drop (length (leading p xs)) xs
   unfolding leading
   run-append-drop [] = refl

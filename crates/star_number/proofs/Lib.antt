@@ -1,0 +1,13 @@
+pub mod Apart
+pub mod Counting
+pub mod Places
+pub mod Digits
+pub mod Ranges
+pub mod Powers
+pub mod Held
+pub mod Fronts
+pub mod Closing
+pub mod Words
+pub mod Exactly
+pub mod Exactness
+pub mod InOrder

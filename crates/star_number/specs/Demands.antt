@@ -1,0 +1,74 @@
+-- What is demanded of numbers: statements alone, over the pieces. Believed; star's Demands cites it.
+use mathlib.Core.Path.{_≡_}
+use mathlib.Core.Bool.{false}
+use mathlib.Core.Logic.{_⊎_, _↔_}
+use mathlib.Core.List.{List, _∷_, _++_}
+use Prim.Native.Nat.{ℕ, suc, _*_, _^_, _≤_, _<_}
+use lib.IntN.{ℤ, pos, negsuc, natAbs}
+use lib.Ieee.{Float as F64, binary64, round}
+use lib.Ieee.Exact.{HasValue}
+use lib.ListN.{length}
+use Rattle.star_text.specs.Outcome.{accepted}
+use Rattle.star_lex.specs.Tokens.{Placed}
+use Rattle.star_grammar.specs.Tables.{Rows, ValueRow}
+use Rattle.star_read.specs.Read.{Sizes, readOf}
+use Rattle.star_find.specs.Find.{Lent}
+use Rattle.star_find.specs.Demands.{lentAfter, countsAfter, ofName, tokenKind, contentOf}
+use Rattle.star_find.specs.declared.Counts.{Counts}
+use Rattle.star_number.specs.Pieces.{Pieces, Written}
+use Rattle.star_number.specs.Number.{mostWhole, mostPower, exact, scaled, numberOf, Says}
+use Rattle.star_number.specs.Taken.{numberIn}
+use Rattle.star_number.specs.Forms.{valueNumber}
+use Rattle.star_number.specs.declared.Number.{Number}
+use Rattle.star_number.specs.declared.Number.the-variants.{Float, Uncertain, TooWide}
+use Rattle.star_number.specs.declared.ValueNumber.{ValueNumber}
+use Rattle.star_number.specs.declared.ValueNumber.the-variants.{Refused, Given}
+
+-- a float, a float with its uncertainty, or too wide
+pub data IsNumber : Number → Type 0 where
+  float : (x : F64) → IsNumber (Float x)
+  uncertain : (x u : F64) → IsNumber (Uncertain x u)
+  too-wide : IsNumber TooWide
+
+-- the answer is a number exactly when the kind is 7 and the content is pieces of one, and then it is theirs; and in every case it is what the
+-- specification says of the value, and nothing else is
+abbrev pub NumberExact : Type 0
+NumberExact = (kind : ℕ) (content : List ℕ)
+    → (IsNumber (numberIn kind content) ↔ ((kind ≡ 7) × ((p : Pieces) × Written content p)))
+    × (((p : Pieces) → kind ≡ 7 → Written content p → numberIn kind content ≡ numberOf p)
+    × ((n : Number) → (numberIn kind content ≡ n) ↔ Says kind content n))
+
+-- two ways to take a content as pieces are equal
+abbrev pub NumberPieces : Type 0
+NumberPieces = (content : List ℕ) (p q : Pieces) → Written content p → Written content q → p ≡ q
+
+-- whole numbers up to 2 to the 53, and ten to the 0 up to 22, are floats without loss
+abbrev pub WholeExact : Type 0
+WholeExact = (n : ℕ) → n ≤ mostWhole → HasValue (exact n) false n 1
+
+abbrev pub PowerExact : Type 0
+PowerExact = (k : ℕ) → k ≤ mostPower → HasValue (exact (10 ^ k)) false (10 ^ k) 1
+
+-- so a number in range is the float that is nearest to m times ten to the e, rounded once
+abbrev pub RoundedOnce : Type 0
+RoundedOnce = (m k : ℕ) → m ≤ mostWhole
+    → (k ≤ mostPower → scaled m (pos k) ≡ round binary64 false (m * 10 ^ k) 1)
+    × (suc k ≤ mostPower → scaled m (negsuc k) ≡ round binary64 false m (10 ^ suc k))
+
+-- after reading: the numbers of a name row, k = 1, 2, .., are those of its values in file order; past the last there is none
+abbrev pub NumbersInOrder : Type 0
+NumbersInOrder = (file : List ℕ) (words : Sizes) (ps : List Placed) (rows : Rows) → readOf file words ≡ accepted (ps, rows)
+    → (name : ℕ) → 1 ≤ name → name ≤ length (rows .names)
+    → ((before : List ValueRow) (v : ValueRow) (behind : List ValueRow) → ofName name (rows .values) ≡ before ++ (v ∷ behind)
+    → valueNumber (lentAfter file words) (countsAfter file words) name (suc (length before)) ≡ Given (numberIn (tokenKind ps (v .value)) (contentOf ps (v .value))))
+    × ((k : ℕ) → (k ≡ 0) ⊎ (length (ofName name (rows .values)) < k)
+    → valueNumber (lentAfter file words) (countsAfter file words) name k ≡ Refused 13)
+
+-- demand 1, of any file, tables, counts and numbers: a number, or 13 or 14
+pub data NumberAnswer : ValueNumber → Type 0 where
+  given : (n : Number) → NumberAnswer (Given n)
+  nowhere : NumberAnswer (Refused 13)
+  outside : NumberAnswer (Refused 14)
+
+abbrev pub NumbersAnswer : Type 0
+NumbersAnswer = (l : Lent) (c : Counts) (name k : ℕ) → NumberAnswer (valueNumber l c name k)

@@ -1,0 +1,5 @@
+pub mod Pieces
+pub mod Number
+pub mod Taken
+pub mod Forms
+pub mod Demands
