@@ -6,12 +6,15 @@ use Rattle.star_read.proofs.RefusalNumber.{refusal-number, numbers-exclude}
 use Rattle.star_read.proofs.Settled.{reading-settled, one-outcome}
 use Rattle.star_find.proofs.Demand1.{lookups-answer, values-answer, span-part}
 use Rattle.star_find.proofs.Lookup.{lookup-by-name, lookup-block, lookup-frame, values-in-order}
+use Rattle.star_number.proofs.Exactly.{number-exact, number-pieces}
+use Rattle.star_number.proofs.Exactness.{whole-exact, power-exact, rounded-once}
+use Rattle.star_number.proofs.InOrder.{numbers-in-order, numbers-answer}
 use Rattle.star_write.proofs.Demand1.{write-answers}
 use Rattle.star_write.proofs.RoundTrip.{round-trip, writes-again}
-use Rattle.star.specs.Demands.{Demand1, Demand2, Demand3}
+use Rattle.star.specs.Demands.{Demand1, Demand2, Demand3, Numbers}
 
 pub demand-1 : Demand1
-demand-1 = (read-answers, lookups-answer, values-answer, write-answers)
+demand-1 = (read-answers, lookups-answer, values-answer, numbers-answer, write-answers)
 
 pub demand-2 : Demand2
 demand-2 = (today-usable, rows-of-reading, lookup-block, lookup-frame, values-in-order, span-part, round-trip, writes-again)
@@ -29,3 +32,6 @@ demand-3 = (
   reading-settled,
   one-outcome,
 )
+
+pub numbers : Numbers
+numbers = (number-exact, number-pieces, whole-exact, power-exact, rounded-once, numbers-in-order)

@@ -3,11 +3,15 @@ use star_find::Counts;
 use star_find::Found;
 use star_find::Span;
 use star_find::Value;
+use star_number::Form;
+use star_number::ValueForm;
 use star_read::Answer;
 use star_write::Written;
 ghost use mathlib.Core.Path.{_≡_};
 ghost use Rattle.star_read.specs.Answer.{tables, Reads};
 ghost use Rattle.star_find.specs.Find.{lent, findBlock, findFrame, findName, valueAt, valueSpan};
+ghost use Rattle.star_number.specs.Taken.{numberIn};
+ghost use Rattle.star_number.specs.Forms.{formOf, valueNumber, valueFormOf};
 ghost use Rattle.star_write.specs.Answer.{Writes};
 
 // Reads a file into the five tables. On a refusal the counts and every word of every table are 0.
@@ -139,6 +143,43 @@ pub extern "C" fn star_value_part(
         (now (values .entry))) counts name k ⌝ }
 {
     star_find::value_span(file, tokens, sets, names, packets, values, counts, name, k)
+}
+
+// What a value of this kind and content is as a number.
+#[no_mangle]
+pub extern "C" fn star_number_of(kind: u32, content: &[u8]) -> Form
+    ensures { λ r. ⌜ r ≡ formOf (numberIn kind (now (content .entry))) ⌝ }
+{
+    star_number::form_of(star_number::number_of(kind, content))
+}
+
+// What the k-th value of a name row, k from 1, is as a number; form 0 where it is refused.
+#[no_mangle]
+pub extern "C" fn star_value_number(
+    file: &[u8],
+    tokens: &[u32],
+    sets: &[u32],
+    names: &[u32],
+    packets: &[u32],
+    values: &[u32],
+    counts: Counts,
+    name: u32,
+    k: u32,
+) -> ValueForm
+    ensures { λ r. ⌜ r ≡ valueFormOf (valueNumber (lent (now (file .entry)) (now (tokens .entry)) (now (sets .entry)) (now (names .entry)) (now (packets .entry))
+        (now (values .entry))) counts name k) ⌝ }
+{
+    star_number::value_form(star_number::value_number(
+        file,
+        tokens,
+        sets,
+        names,
+        packets,
+        values,
+        counts,
+        name,
+        k,
+    ))
 }
 
 // Reads a file into the five tables and writes its plain form. On a refusal length, counts, tables and output are all 0.
