@@ -1,6 +1,7 @@
 /*
  * Reads the full case, specification 15.1, through star.h and prints what came of it:
- * the counts, the five tables, each value of each name, and the plain form.
+ * the counts, the five tables, each value of each name, a value and a text as numbers,
+ * and the plain form.
  */
 #include <stdio.h>
 #include <string.h>
@@ -78,6 +79,15 @@ int main(void)
     printf("frame f: refusal %u, row %u\n", (unsigned)frame.refusal, (unsigned)frame.row);
     print_values(counts, block.row, "_x");
     print_values(counts, block.row, "_y");
+
+    /* the second value of _y, and a text with an uncertainty */
+    star_found y = star_find_name(FILE_RANGE, TABLES, counts, block.row, (const uint8_t *)"_y", 2);
+    star_value_number_t second = star_value_number(FILE_RANGE, TABLES, counts, y.row, 2);
+    printf("_y 2 as a number: refusal %u, form %u, value %g\n", (unsigned)second.refusal,
+           (unsigned)second.form, second.value);
+    star_number number = star_number_of(STAR_TOKEN_WORD, (const uint8_t *)"8.53(1)", 7);
+    printf("8.53(1) as a number: form %u, value %g, uncertainty %g\n", (unsigned)number.form,
+           number.value, number.uncertainty);
 
     star_written written = star_write(FILE_RANGE, TABLES, plain, sizeof(plain));
     printf("plain form, %u bytes:\n", (unsigned)written.length);

@@ -2,8 +2,9 @@
  * Tackturnel: a verified reader of STAR Files.
  *
  * The library reads one STAR File from lent bytes into five lent tables of
- * 32-bit words, finds data blocks, save frames, names and values in them, and
- * writes the file's plain form.
+ * 32-bit words, finds data blocks, save frames, names and values in them,
+ * answers values as numbers with their uncertainties, and writes the file's
+ * plain form.
  *
  * THE FIVE TABLES. Rows count from 1 and stand in file order. Offsets count
  * the file's bytes from 0; the end of a span is not included.
@@ -22,8 +23,9 @@
  * for kinds 1, 2 and 8, what stands between the delimiters for kinds 9 to 11,
  * else the whole word.
  *
- * REFUSALS. Every answer but star_part has a refusal; 0, STAR_OK, means
- * accepted or found. A place is an offset into the file unless said otherwise.
+ * REFUSALS. Every answer but star_part and star_number has a refusal; 0,
+ * STAR_OK, means accepted or found. A place is an offset into the file unless
+ * said otherwise.
  *
  *   no.  constant         given when                                        place
  *   1    STAR_TOO_LARGE   file (or plain form) over 1,048,576 bytes         0
@@ -45,6 +47,31 @@
  * Order of checking: 1; 2 over the whole file; the first token faulty by 3
  * to 6; 7 for table 1; the first token that breaks the grammar, 8 to 12;
  * 7 for tables 2 to 5, the lowest number first.
+ *
+ * NUMBERS. A value of kind 7 is a number where its content is, in this order:
+ * + or - or no sign; digits, one at least, with no point or one point before,
+ * between or after them; no exponent, or e or E, then + or - or no sign, then
+ * one digit or more; no uncertainty, or one digit or more in round brackets.
+ *
+ * m is the digits before the exponent as a whole number, e is the written
+ * exponent, 0 if there is none, less the count of digits after the point, and
+ * u is the digits in brackets as a whole number. With m and u at most
+ * 9,007,199,254,740,992 and e from -22 to 22, the value is m times ten to the
+ * e or, for e below 0, m divided by ten to the -e, and then the sign: -0 is
+ * negative zero. The uncertainty is u times or divided by the same power of
+ * ten and has no sign. Each is rounded once, to the nearest double and of two
+ * equally near to the even one, as the processor rounds unless it is set
+ * otherwise. 8.53(1) is 853 / 100 with the uncertainty 1 / 100.
+ *
+ *   no.  form                        given when                         value  uncertainty
+ *   1    STAR_NUMBER_FLOAT           a number without brackets          yes    +0.0
+ *   2    STAR_NUMBER_UNCERTAIN       a number with brackets             yes    yes
+ *   3    STAR_NUMBER_UNKNOWN         kind 7, the content is ?           +0.0   +0.0
+ *   4    STAR_NUMBER_NOT_APPLICABLE  kind 7, the content is .           +0.0   +0.0
+ *   5    STAR_NUMBER_TOO_WIDE        a number with m, u or e outside    +0.0   +0.0
+ *                                    these limits; 0e30 too
+ *   6    STAR_NUMBER_TEXT            anything else, and any content     +0.0   +0.0
+ *                                    of another kind
  *
  * LENT MEMORY. A range is a pointer and its number of elements. Every pointer
  * must be non-null and aligned for its type and must lead to that many
@@ -106,6 +133,16 @@ enum star_set_kind {
     STAR_SET_FRAME = 2
 };
 
+/* The forms of numbers, as the table above has them. */
+enum star_number_form {
+    STAR_NUMBER_FLOAT = 1,
+    STAR_NUMBER_UNCERTAIN = 2,
+    STAR_NUMBER_UNKNOWN = 3,
+    STAR_NUMBER_NOT_APPLICABLE = 4,
+    STAR_NUMBER_TOO_WIDE = 5,
+    STAR_NUMBER_TEXT = 6
+};
+
 /* The words of a row in each table. */
 #define STAR_TOKENS_WIDTH 3
 #define STAR_SETS_WIDTH 3
@@ -119,6 +156,10 @@ enum star_set_kind {
 #define STAR_MOST_NAME_BYTES 32
 /* The most levels of a loop. */
 #define STAR_MOST_LEVELS 8
+/* The most that the digits of a number, and those of its uncertainty, may be: 2 to the 53. */
+#define STAR_MOST_WHOLE 9007199254740992
+/* The most that e of a number may be; the least is its negative. */
+#define STAR_MOST_POWER 22
 
 /*
  * ROOM FOR A FILE OF n BYTES. With STAR_TOKENS_WORDS(n) to STAR_VALUES_WORDS(n)
@@ -186,6 +227,18 @@ typedef struct {
 typedef struct {
     size_t start, end;
 } star_part;
+
+/* A number: its form, its value and its uncertainty, +0.0 where the form has none. */
+typedef struct {
+    uint32_t form;
+    double value, uncertainty;
+} star_number;
+
+/* What the lookup of a number answers: the refusal, and the number, all of it 0 when refused. */
+typedef struct {
+    uint32_t refusal, form;
+    double value, uncertainty;
+} star_value_number_t;
 
 /* What writing answers: as reading, and the length of the plain form. */
 typedef struct {
@@ -317,6 +370,32 @@ star_part star_value_part(const uint8_t *file, size_t file_len,
                           const uint32_t *packets, size_t packets_len,
                           const uint32_t *values, size_t values_len,
                           star_counts counts, uint32_t name_row, uint32_t k);
+
+/*
+ * Answers a content of this kind as a number, by the rules above. The kind may
+ * be any number, and the content any bytes of any length: no count of digits
+ * and no exponent is too large to be told.
+ *
+ * Refusals: none.
+ * Afterwards: all lent memory is as it was.
+ */
+star_number star_number_of(uint32_t kind, const uint8_t *content, size_t content_len);
+
+/*
+ * Finds the k-th value of a name row, k from 1, and answers it as a number: as
+ * star_number_of does for its kind and its part of the file.
+ *
+ * Refusals: those of star_value_at. A refused number answers form 0, value
+ * +0.0 and uncertainty +0.0.
+ * Afterwards: all lent memory is as it was.
+ */
+star_value_number_t star_value_number(const uint8_t *file, size_t file_len,
+                                      const uint32_t *tokens, size_t tokens_len,
+                                      const uint32_t *sets, size_t sets_len,
+                                      const uint32_t *names, size_t names_len,
+                                      const uint32_t *packets, size_t packets_len,
+                                      const uint32_t *values, size_t values_len,
+                                      star_counts counts, uint32_t name_row, uint32_t k);
 
 /*
  * Reads a file and writes its plain form: its tokens in order in their own

@@ -2,13 +2,20 @@
 //!
 //! `tackturnel-bench [case ...]` prints a table, each figure the best of
 //! several runs in MB/s, a megabyte being 1,000,000 bytes.
-//! `tackturnel-bench --list` prints the cases.
+//! `tackturnel-bench --numbers` prints the time of a number beside that of C's
+//! `strtod` on the same texts.
+//! `tackturnel-bench --list` prints the cases, `--list numbers` those of numbers.
 //! `tackturnel-bench --once case read|write` makes everything ready and makes
 //! one call, for counting its instructions; it prints the file's bytes.
+//! `tackturnel-bench --once numbers-case number_of` makes one call for each text
+//! and prints how many there are.
 
-#![forbid(unsafe_code)]
+#![deny(unsafe_code)]
 
 mod cases;
+mod numbers;
+#[allow(unsafe_code)]
+mod strtod;
 
 use std::hint::black_box;
 use std::time::{Duration, Instant};
@@ -115,6 +122,9 @@ fn main() {
     let arguments: Vec<&str> = arguments.iter().map(String::as_str).collect();
     match arguments[..] {
         ["--list"] => CASES.iter().for_each(|case| println!("{}", case.0)),
+        ["--list", "numbers"] => numbers::CASES.iter().for_each(|case| println!("{}", case.0)),
+        ["--numbers"] => numbers::times(),
+        ["--once", name, "number_of"] => numbers::once(name),
         ["--once", name, call] => once(named(name), call),
         _ => {
             let chosen: Vec<Case> = match arguments.is_empty() {

@@ -15,6 +15,7 @@
 //! let block = star::find_block(file, tables, counts, b"a").row;
 //! let name = star::find_name(file, tables, counts, block, b"_x").row;
 //! assert_eq!(star::value_part(file, tables, counts, name, 1), b"1");
+//! assert_eq!(star::value_number(file, tables, counts, name, 1).value, 1.0);
 //! ```
 
 #![deny(unsafe_code)]
@@ -25,5 +26,5 @@ pub mod raw;
 #[allow(unsafe_code)]
 pub mod star;
 
-pub use raw::{Counts, Found, Part, Reading, Value, Written};
-pub use star::{Tables, TablesMut};
+pub use raw::{Counts, Found, Number, Part, Reading, Value, ValueNumber, Written};
+pub use star::{NumberForm, Tables, TablesMut};

@@ -64,6 +64,21 @@ pub const STAR_SET_BLOCK: u32 = 1;
 /// Kind of set: a save frame.
 pub const STAR_SET_FRAME: u32 = 2;
 
+// ----------------------------------------------------------------- forms
+
+/// Form of a number: a value.
+pub const STAR_NUMBER_FLOAT: u32 = 1;
+/// Form of a number: a value and its uncertainty.
+pub const STAR_NUMBER_UNCERTAIN: u32 = 2;
+/// Form of a number: unknown, `?`.
+pub const STAR_NUMBER_UNKNOWN: u32 = 3;
+/// Form of a number: not applicable, `.`.
+pub const STAR_NUMBER_NOT_APPLICABLE: u32 = 4;
+/// Form of a number: beyond [`STAR_MOST_WHOLE`] or [`STAR_MOST_POWER`].
+pub const STAR_NUMBER_TOO_WIDE: u32 = 5;
+/// Form of a number: text, which is no number.
+pub const STAR_NUMBER_TEXT: u32 = 6;
+
 // ---------------------------------------------------------------- limits
 
 /// The words of a row of tokens.
@@ -82,6 +97,10 @@ pub const STAR_MOST_BYTES: usize = 1_048_576;
 pub const STAR_MOST_NAME_BYTES: usize = 32;
 /// The most levels of a loop.
 pub const STAR_MOST_LEVELS: usize = 8;
+/// The most that the digits of a number, and those of its uncertainty, may be: 2 to the 53.
+pub const STAR_MOST_WHOLE: u64 = 9_007_199_254_740_992;
+/// The most that the power of ten of a number may be; the least is its negative.
+pub const STAR_MOST_POWER: u32 = 22;
 
 // ------------------------------------------------------------------ room
 
@@ -217,6 +236,32 @@ pub struct Part {
     pub start: usize,
     /// Offset after the last byte.
     pub end: usize,
+}
+
+/// A number: `star_number`.
+#[repr(C)]
+#[derive(Clone, Copy, Debug, Default, PartialEq)]
+pub struct Number {
+    /// `STAR_NUMBER_FLOAT` to `STAR_NUMBER_TEXT`.
+    pub form: u32,
+    /// +0.0 where the form has none.
+    pub value: f64,
+    /// +0.0 where the form has none.
+    pub uncertainty: f64,
+}
+
+/// What the lookup of a number answers: `star_value_number_t`.
+#[repr(C)]
+#[derive(Clone, Copy, Debug, Default, PartialEq)]
+pub struct ValueNumber {
+    /// 0 when found.
+    pub refusal: u32,
+    /// `STAR_NUMBER_FLOAT` to `STAR_NUMBER_TEXT`, 0 when refused.
+    pub form: u32,
+    /// +0.0 where the form has none.
+    pub value: f64,
+    /// +0.0 where the form has none.
+    pub uncertainty: f64,
 }
 
 /// What writing answers: as reading, and the length of the plain form.
@@ -356,6 +401,28 @@ extern "C" {
         name_row: u32,
         k: u32,
     ) -> Part;
+
+    /// See include/star.h.
+    pub fn star_number_of(kind: u32, content: *const u8, content_len: usize) -> Number;
+
+    /// See include/star.h.
+    pub fn star_value_number(
+        file: *const u8,
+        file_len: usize,
+        tokens: *const u32,
+        tokens_len: usize,
+        sets: *const u32,
+        sets_len: usize,
+        names: *const u32,
+        names_len: usize,
+        packets: *const u32,
+        packets_len: usize,
+        values: *const u32,
+        values_len: usize,
+        counts: Counts,
+        name_row: u32,
+        k: u32,
+    ) -> ValueNumber;
 
     /// See include/star.h.
     pub fn star_write(

@@ -5,7 +5,7 @@
 //! nothing else.
 
 use crate::raw;
-use crate::raw::{Counts, Found, Part, Reading, Value, Written};
+use crate::raw::{Counts, Found, Number, Part, Reading, Value, ValueNumber, Written};
 
 /// The five tables, lent to lookups.
 #[derive(Clone, Copy, Debug)]
@@ -83,6 +83,51 @@ impl Written {
             packets: self.packets,
             values: self.values,
         }
+    }
+}
+
+/// The form of a number, with what it holds.
+#[derive(Clone, Copy, Debug, PartialEq)]
+pub enum NumberForm {
+    /// A value.
+    Float(f64),
+    /// A value and its uncertainty.
+    Uncertain {
+        /// The value.
+        value: f64,
+        /// Its uncertainty, never negative.
+        uncertainty: f64,
+    },
+    /// `?`
+    Unknown,
+    /// `.`
+    NotApplicable,
+    /// A number beyond the limits.
+    TooWide,
+    /// No number.
+    Text,
+}
+
+impl Number {
+    /// The form with what it holds; none for a form that no call answers, as 0.
+    pub fn told(&self) -> Option<NumberForm> {
+        let Number { form, value, uncertainty } = *self;
+        match form {
+            raw::STAR_NUMBER_FLOAT => Some(NumberForm::Float(value)),
+            raw::STAR_NUMBER_UNCERTAIN => Some(NumberForm::Uncertain { value, uncertainty }),
+            raw::STAR_NUMBER_UNKNOWN => Some(NumberForm::Unknown),
+            raw::STAR_NUMBER_NOT_APPLICABLE => Some(NumberForm::NotApplicable),
+            raw::STAR_NUMBER_TOO_WIDE => Some(NumberForm::TooWide),
+            raw::STAR_NUMBER_TEXT => Some(NumberForm::Text),
+            _ => None,
+        }
+    }
+}
+
+impl ValueNumber {
+    /// The number that is answered along with the refusal; its form is 0 when refused.
+    pub fn number(&self) -> Number {
+        Number { form: self.form, value: self.value, uncertainty: self.uncertainty }
     }
 }
 
@@ -208,4 +253,21 @@ pub fn value_part<'f>(
 ) -> &'f [u8] {
     let part = value_span(file, tables, counts, name_row, k);
     &file[part.start..part.end]
+}
+
+/// A content of this kind as a number.
+pub fn number_of(kind: u32, content: &[u8]) -> Number {
+    // SAFETY: the range is a slice, and the call does not write to it.
+    unsafe { raw::star_number_of(kind, content.as_ptr(), content.len()) }
+}
+
+/// The k-th value of a name row as a number, k from 1.
+pub fn value_number(
+    file: &[u8],
+    tables: Tables<'_>,
+    counts: Counts,
+    name_row: u32,
+    k: u32,
+) -> ValueNumber {
+    look!(star_value_number, file, tables, counts, name_row, k)
 }

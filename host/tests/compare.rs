@@ -1,39 +1,14 @@
 //! The library beside the reference on many files, tables and questions.
 //!
-//! Every group has a number of seeds and a time: it goes through its first
-//! tenth in any case and on until either runs out. STAR_COMPARE_TIMES=n takes
-//! n times as many seeds and as long; STAR_COMPARE_SEED=s begins at seed s.
+//! The groups and their settings are as `harness::seeds` has them.
 
 mod harness;
 
-use std::env;
-use std::time::{Duration, Instant};
-
-use harness::{by_length, check, check_lookups, read, round_trip, write, Tally};
-use tackturnel_tests_support::generate::{self, Handed, Rng};
+use harness::{
+    by_length, check, check_lookups, handed, read, round_trip, seeds, setting, write, Tally,
+};
+use tackturnel_tests_support::generate::{self, Rng};
 use tackturnel_tests_support::reference;
-
-fn setting(name: &str, otherwise: f64) -> f64 {
-    match env::var(name) {
-        Ok(text) => text.parse().unwrap_or_else(|_| panic!("{name} is no number: {text}")),
-        Err(_) => otherwise,
-    }
-}
-
-/// Runs a group's seeds within its time.
-fn seeds(group: &str, count: u64, seconds: u64, mut run: impl FnMut(u64)) {
-    let times = setting("STAR_COMPARE_TIMES", 1.0);
-    assert!(times > 0.0, "STAR_COMPARE_TIMES is to be above 0");
-    let first = setting("STAR_COMPARE_SEED", 0.0) as u64;
-    let count = (count as f64 * times).ceil() as u64;
-    let until = Instant::now() + Duration::from_secs(seconds).mul_f64(times);
-    let mut done = 0;
-    while done < count && (done < count.div_ceil(10) || Instant::now() < until) {
-        run(first + done);
-        done += 1;
-    }
-    println!("{group}: {done} of {count} seeds from {first}");
-}
 
 /// Requires that each of these refusals was met, unless in a small part of a run.
 fn require(group: &str, tally: &Tally, refusals: &[usize]) {
@@ -53,12 +28,6 @@ fn some_file(rng: &mut Rng) -> Vec<u8> {
         5 | 6 => generate::soup(rng),
         _ => generate::bytes(rng),
     }
-}
-
-fn handed(file: &[u8], spare: usize) -> Handed {
-    let room = reference::words_needed(file).map(|words| words + spare);
-    let (answer, tables) = reference::read(file, room);
-    Handed { file: file.to_vec(), tables, counts: answer.counts() }
 }
 
 #[test]

@@ -10,7 +10,7 @@ use std::mem::{offset_of, size_of};
 use std::path::Path;
 use std::process::Command;
 
-use tackturnel::{raw, Counts, Found, Part, Reading, Value, Written};
+use tackturnel::{raw, Counts, Found, Number, Part, Reading, Value, ValueNumber, Written};
 
 const HEADER: &str = include_str!("../../include/star.h");
 
@@ -19,7 +19,7 @@ macro_rules! constants {
     ($($name:ident)*) => { [$((stringify!($name), raw::$name as u64)),*] };
 }
 
-const CONSTANTS: [(&str, u64); 37] = constants! {
+const CONSTANTS: [(&str, u64); 45] = constants! {
     STAR_OK STAR_TOO_LARGE STAR_BAD_BYTE STAR_BAD_WORD STAR_TOO_LONG STAR_OPEN_QUOTE
     STAR_OPEN_TEXT STAR_TOO_SHORT STAR_MISPLACED STAR_TAKEN STAR_INCOMPLETE STAR_TOO_DEEP
     STAR_GLOBAL STAR_NOT_FOUND STAR_OUTSIDE
@@ -27,8 +27,10 @@ const CONSTANTS: [(&str, u64); 37] = constants! {
     STAR_TOKEN_NAME STAR_TOKEN_WORD STAR_TOKEN_REFERENCE STAR_TOKEN_SINGLE_QUOTED
     STAR_TOKEN_DOUBLE_QUOTED STAR_TOKEN_TEXT STAR_TOKEN_GLOBAL
     STAR_SET_BLOCK STAR_SET_FRAME
+    STAR_NUMBER_FLOAT STAR_NUMBER_UNCERTAIN STAR_NUMBER_UNKNOWN STAR_NUMBER_NOT_APPLICABLE
+    STAR_NUMBER_TOO_WIDE STAR_NUMBER_TEXT
     STAR_TOKENS_WIDTH STAR_SETS_WIDTH STAR_NAMES_WIDTH STAR_PACKETS_WIDTH STAR_VALUES_WIDTH
-    STAR_MOST_BYTES STAR_MOST_NAME_BYTES STAR_MOST_LEVELS
+    STAR_MOST_BYTES STAR_MOST_NAME_BYTES STAR_MOST_LEVELS STAR_MOST_WHOLE STAR_MOST_POWER
 };
 
 /// A function of a file's length.
@@ -65,13 +67,15 @@ macro_rules! layout {
 
 type Layout = (&'static str, usize, Vec<(&'static str, usize)>);
 
-fn layouts() -> [Layout; 6] {
+fn layouts() -> [Layout; 8] {
     [
         layout!("star_reading" Reading refusal place tokens sets names packets values),
         layout!("star_counts" Counts tokens sets names packets values),
         layout!("star_found" Found refusal row),
         layout!("star_value" Value refusal kind packet),
         layout!("star_part" Part start end),
+        layout!("star_number" Number form value uncertainty),
+        layout!("star_value_number_t" ValueNumber refusal form value uncertainty),
         layout!("star_written" Written refusal place length tokens sets names packets values),
     ]
 }

@@ -2,8 +2,8 @@
 
 use std::collections::HashSet;
 
-use tackturnel::{raw, star, Counts, Reading, Tables, TablesMut, Written};
-use tackturnel_tests_support::notation::{escaped, vectors};
+use tackturnel::{raw, star, Counts, NumberForm, Reading, Tables, TablesMut, Written};
+use tackturnel_tests_support::notation::{escaped, number_vectors, vectors};
 use tackturnel_tests_support::reference;
 
 /// The answers of both calls on a file, tables of 900 words and an output of
@@ -37,6 +37,17 @@ fn vectors_are_answered() {
         let rest = out.split_off(written.length as usize);
         assert_eq!(out, vector.plain, "{shown}");
         assert!(rest.iter().all(|&byte| byte == 0), "{shown}");
+    }
+}
+
+#[test]
+fn number_vectors_are_answered() {
+    let list = number_vectors(include_str!("../vectors/101.txt"));
+    assert_eq!(list.len(), 110);
+    for vector in list {
+        let number = star::number_of(vector.kind, &vector.content);
+        let answer = (number.form, number.value.to_bits(), number.uncertainty.to_bits());
+        assert_eq!(answer, vector.answer, "line {}: {}", vector.line, escaped(&vector.content));
     }
 }
 
@@ -184,6 +195,18 @@ fn measurement_is_read() {
     assert_eq!(value(frame, "_attenuator_factor", 2), "3.51(2)");
     assert_eq!(value(block, "_position_phi", 9), "15.0");
     assert_eq!(value(block, "_meas_F_squared", 5), "885.6");
+    let number = |set: u32, name: &str, k: u32| {
+        let row = star::find_name(file.as_bytes(), tables, counts, set, name.as_bytes()).row;
+        star::value_number(file.as_bytes(), tables, counts, row, k).number().told()
+    };
+    let uncertain = |value, uncertainty| Some(NumberForm::Uncertain { value, uncertainty });
+    assert_eq!(number(block, "_cell_length_a", 1), uncertain(4.9134, 0.0002));
+    assert_eq!(number(frame, "_attenuator_factor", 4), uncertain(44.0, 1.0));
+    assert_eq!(number(block, "_position_chi", 8), Some(NumberForm::Float(-45.0)));
+    assert_eq!(number(block, "_diffrn_remark", 1), Some(NumberForm::Unknown));
+    assert_eq!(number(block, "_scan_remark", 2), Some(NumberForm::NotApplicable));
+    assert_eq!(number(block, "_audit_creation_date", 1), Some(NumberForm::Text));
+    assert_eq!(number(block, "_cell_length_a", 2), None);
     let kinds: HashSet<u32> = tables.tokens.chunks(3).map(|row| row[0]).collect();
     assert!((1..=11).all(|kind| kinds.contains(&kind)), "{kinds:?}");
     assert!(tables.packets.chunks(3).any(|row| row[1] == 3));
@@ -313,4 +336,31 @@ fn constants_name_the_answers() {
     let (tables, counts) = (Tables::of(&tables), reading.counts());
     assert_eq!(star::find_block(file, tables, counts, b"b").refusal, raw::STAR_NOT_FOUND);
     assert_eq!(star::find_name(file, tables, counts, 3, b"_x").refusal, raw::STAR_OUTSIDE);
+}
+
+/// The constants of numbers stand for what their names say.
+#[test]
+fn constants_name_the_forms() {
+    let most = raw::STAR_MOST_WHOLE;
+    let power = raw::STAR_MOST_POWER;
+    for (content, form) in [
+        ("1.5".to_owned(), raw::STAR_NUMBER_FLOAT),
+        ("1.5(2)".into(), raw::STAR_NUMBER_UNCERTAIN),
+        ("?".into(), raw::STAR_NUMBER_UNKNOWN),
+        (".".into(), raw::STAR_NUMBER_NOT_APPLICABLE),
+        (format!("{most}"), raw::STAR_NUMBER_FLOAT),
+        (format!("{}", most + 1), raw::STAR_NUMBER_TOO_WIDE),
+        (format!("1({most})"), raw::STAR_NUMBER_UNCERTAIN),
+        (format!("1({})", most + 1), raw::STAR_NUMBER_TOO_WIDE),
+        (format!("1e{power}"), raw::STAR_NUMBER_FLOAT),
+        (format!("1e{}", power + 1), raw::STAR_NUMBER_TOO_WIDE),
+        (format!("1e-{power}"), raw::STAR_NUMBER_FLOAT),
+        (format!("1e-{}", power + 1), raw::STAR_NUMBER_TOO_WIDE),
+        ("1.5 mm".into(), raw::STAR_NUMBER_TEXT),
+    ] {
+        let number = star::number_of(raw::STAR_TOKEN_WORD, content.as_bytes());
+        assert_eq!(number.form, form, "{content}");
+        let quoted = star::number_of(raw::STAR_TOKEN_SINGLE_QUOTED, content.as_bytes());
+        assert_eq!(quoted.form, raw::STAR_NUMBER_TEXT, "{content}");
+    }
 }

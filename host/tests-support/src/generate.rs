@@ -1,5 +1,7 @@
 //! Files and tables to compare readers on, all from seeds.
 
+pub mod numbers;
+
 use std::collections::HashSet;
 
 use tackturnel::Counts;
@@ -110,8 +112,10 @@ fn code(rng: &mut Rng, most: usize) -> Vec<u8> {
 /// A word of kind 7, which may begin with `;`.
 fn plain_word(rng: &mut Rng) -> Vec<u8> {
     const WORDS: &str = "1 -0.5 8.53(1) ? . C#N $ a'b DATA_x Loop_ data stop sa've_ x_ ; ;b ;; ;'";
-    if rng.once_in(2) {
-        return one_of(rng, WORDS).into();
+    match rng.below(4) {
+        0 | 1 => return one_of(rng, WORDS).into(),
+        2 => return numbers::word(rng),
+        _ => {}
     }
     let mut word = vec![rng.pick(b"abcdeglsABC019.+-?*;()[]!")];
     word.extend(letters(rng, 9));

@@ -1,15 +1,16 @@
 //! What tests the STAR File reader from outside.
 //!
 //! [`reference`] is a plain reader of its own, written from the specification
-//! alone; [`generate`] makes files and tables to compare the two on, and
-//! [`notation`] prints them. Of the package under test only the types that calls
-//! take and answer are used here.
+//! alone, and [`number`] its numbers; [`generate`] makes files, tables and
+//! numbers to compare the two on, and [`notation`] prints them. Of the package
+//! under test only the types that calls take and answer are used here.
 
 #![forbid(unsafe_code)]
 #![warn(missing_docs)]
 
 pub mod generate;
 pub mod notation;
+pub mod number;
 pub mod reference;
 
 /// The words of a row in each of the five tables.

@@ -1,4 +1,4 @@
-//! Files in the escaped notation of vectors/base.txt, and those vectors.
+//! Bytes in the escaped notation of the lists in vectors/, and those lists.
 
 /// Bytes in the escaped notation: `\n \r \t \v \f \\` and `\xNN` as in C. A
 /// bar, and a blank at either end, are written `\x7c` and `\x20`.
@@ -99,6 +99,39 @@ fn vector(line: usize, text: &str) -> Vector {
 fn numbers(text: &str) -> Vec<u32> {
     let words = text.split([' ', ',']).filter(|word| !word.is_empty());
     words.map(|word| word.parse().expect("a number")).collect()
+}
+
+/// A content and the number that is expected for it.
+#[derive(Clone, Debug)]
+pub struct NumberVector {
+    /// The line of the vector in its list, from 1.
+    pub line: usize,
+    /// The kind.
+    pub kind: u32,
+    /// The content's bytes.
+    pub content: Vec<u8>,
+    /// The form, and the bits of the value and of the uncertainty.
+    pub answer: (u32, u64, u64),
+}
+
+/// The vectors of a list of numbers; its first line says how it is written.
+pub fn number_vectors(list: &str) -> Vec<NumberVector> {
+    let lines = list.lines().enumerate().skip(1);
+    lines.map(|(at, line)| number_vector(at + 1, line)).collect()
+}
+
+fn number_vector(line: usize, text: &str) -> NumberVector {
+    let fields: Vec<&str> = text.split(" | ").collect();
+    assert_eq!(fields.len(), 3, "line {line}: three fields");
+    let answer: Vec<&str> = fields[2].split(' ').collect();
+    assert_eq!(answer.len(), 3, "line {line}: a form and two floats");
+    let bits = |digits: &str| u64::from_str_radix(digits, 16).expect("hexadecimal digits");
+    NumberVector {
+        line,
+        kind: fields[0].parse().expect("a kind"),
+        content: unescaped(fields[1]),
+        answer: (answer[0].parse().expect("a form"), bits(answer[1]), bits(answer[2])),
+    }
 }
 
 #[cfg(test)]

@@ -7,8 +7,9 @@
 
 use std::collections::HashSet;
 
-use tackturnel::{Counts, Found, Part, Reading, Tables, Value, Written};
+use tackturnel::{Counts, Found, Part, Reading, Tables, Value, ValueNumber, Written};
 
+use crate::number::number_of;
 use crate::{MOST_BYTES, WIDTHS};
 
 /// A refusal's number and place.
@@ -603,6 +604,24 @@ pub fn value_span(file: &[u8], tables: Tables<'_>, counts: Counts, name_row: u32
     }
 }
 
+/// The k-th value of a name row as a number.
+pub fn value_number(
+    file: &[u8],
+    tables: Tables<'_>,
+    counts: Counts,
+    name_row: u32,
+    k: u32,
+) -> ValueNumber {
+    match value(file, tables, counts, name_row, k) {
+        Ok((kind, _, Part { start, end })) => {
+            let number = number_of(kind, &file[start..end]);
+            let (value, uncertainty) = (number.value, number.uncertainty);
+            ValueNumber { refusal: 0, form: number.form, value, uncertainty }
+        }
+        Err(refusal) => ValueNumber { refusal, form: 0, value: 0.0, uncertainty: 0.0 },
+    }
+}
+
 #[cfg(test)]
 mod tests {
     use super::*;
@@ -779,6 +798,8 @@ mod tests {
         assert_eq!(find_name(file, tables, counts, 1, b"_y"), Found { refusal: 13, row: 0 });
         assert_eq!(find_name(file, tables, counts, 3, b"_y"), Found { refusal: 14, row: 0 });
         assert_eq!(value_at(file, tables, counts, 2, 1), Value { refusal: 0, kind: 7, packet: 0 });
+        let two = ValueNumber { refusal: 0, form: 1, value: 2.0, uncertainty: 0.0 };
+        assert_eq!(value_number(file, tables, counts, 2, 1), two);
         assert_eq!(value_at(file, tables, counts, 2, 0).refusal, 13);
         assert_eq!(value_at(file, tables, counts, 2, 2).refusal, 13);
         assert_eq!(value_at(file, tables, counts, 3, 0).refusal, 14);
@@ -790,5 +811,7 @@ mod tests {
         assert_eq!(find_name(cut, tables, counts, 2, b"_y").refusal, 14);
         assert_eq!(value_at(cut, tables, counts, 2, 1).refusal, 14);
         assert_eq!(value_span(cut, tables, counts, 2, 1), Part { start: 0, end: 0 });
+        let refused = ValueNumber { refusal: 14, form: 0, value: 0.0, uncertainty: 0.0 };
+        assert_eq!(value_number(cut, tables, counts, 2, 1), refused);
     }
 }

@@ -1,16 +1,46 @@
 //! Calls the library with guarded memory and compares it with the reference.
 
+// each of the tests uses a part of this
+#![allow(dead_code)]
+
 use std::env;
 use std::fmt::{Debug, Write};
 use std::sync::OnceLock;
 use std::time::{Duration, Instant};
 
-use tackturnel::{raw, star, Counts, Part, Reading, Tables, TablesMut, Written};
+use tackturnel::{raw, star, Counts, Number, Part, Reading, Tables, TablesMut, Written};
 use tackturnel_tests_support::generate::{Handed, Question, Rng};
 use tackturnel_tests_support::notation::escaped;
-use tackturnel_tests_support::{reference, WIDTHS};
+use tackturnel_tests_support::{number, reference, WIDTHS};
 
 const TABLES: [&str; 5] = ["tokens", "sets", "names", "packets", "values"];
+
+// --------------------------------------------------------------- groups
+
+/// A number that the environment sets.
+pub fn setting(name: &str, otherwise: f64) -> f64 {
+    match env::var(name) {
+        Ok(text) => text.parse().unwrap_or_else(|_| panic!("{name} is no number: {text}")),
+        Err(_) => otherwise,
+    }
+}
+
+/// Runs a group's seeds within its time: its first tenth in any case, and on
+/// until either runs out. STAR_COMPARE_TIMES=n takes n times as many seeds and
+/// as long; STAR_COMPARE_SEED=s begins at seed s.
+pub fn seeds(group: &str, count: u64, seconds: u64, mut run: impl FnMut(u64)) {
+    let times = setting("STAR_COMPARE_TIMES", 1.0);
+    assert!(times > 0.0, "STAR_COMPARE_TIMES is to be above 0");
+    let first = setting("STAR_COMPARE_SEED", 0.0) as u64;
+    let count = (count as f64 * times).ceil() as u64;
+    let until = Instant::now() + Duration::from_secs(seconds).mul_f64(times);
+    let mut done = 0;
+    while done < count && (done < count.div_ceil(10) || Instant::now() < until) {
+        run(first + done);
+        done += 1;
+    }
+    println!("{group}: {done} of {count} seeds from {first}");
+}
 
 // ---------------------------------------------------------- lent memory
 
@@ -333,6 +363,13 @@ pub fn by_length(seed: u64, file: &[u8]) -> Result<Reading, String> {
 /// How often each refusal was answered.
 pub type Tally = [u64; 15];
 
+/// A file and its tables as the reference reads them, with words to spare.
+pub fn handed(file: &[u8], spare: usize) -> Handed {
+    let room = reference::words_needed(file).map(|words| words + spare);
+    let (answer, tables) = reference::read(file, room);
+    Handed { file: file.to_vec(), tables, counts: answer.counts() }
+}
+
 /// Asks every lookup each question by both; adds to the tallies of blocks,
 /// frames, names and values.
 pub fn lookups(
@@ -398,15 +435,87 @@ pub fn check_lookups(
     questions: &[Question],
     tallies: &mut [Tally; 4],
 ) {
-    if let Err(difference) = lookups(seed, handed, questions, tallies) {
-        let mut shown = String::new();
-        for (name, table) in TABLES.iter().zip(&handed.tables) {
-            let _ = writeln!(shown, "  {name}: {:?}", &table[..table.len().min(300)]);
-        }
-        panic!(
-            "{label}, seed {seed}:\n{}\n{shown}  {:?}\n{difference}",
-            escaped(&handed.file),
-            handed.counts
-        )
+    let compared = lookups(seed, handed, questions, tallies);
+    compared.unwrap_or_else(|difference| fail(label, seed, handed, &difference))
+}
+
+/// Fails with all that was handed in.
+fn fail(label: &str, seed: u64, handed: &Handed, difference: &str) -> ! {
+    let mut shown = String::new();
+    for (name, table) in TABLES.iter().zip(&handed.tables) {
+        let _ = writeln!(shown, "  {name}: {:?}", &table[..table.len().min(300)]);
     }
+    panic!(
+        "{label}, seed {seed}:\n{}\n{shown}  {:?}\n{difference}",
+        escaped(&handed.file),
+        handed.counts
+    )
+}
+
+// ---------------------------------------------------------------- numbers
+
+/// How often each form was answered, 0 being that of a refused number.
+pub type Forms = [u64; 7];
+
+/// A number's form and the bits of its floats.
+pub fn bits(number: Number) -> (u32, u64, u64) {
+    (number.form, number.value.to_bits(), number.uncertainty.to_bits())
+}
+
+/// Answers a content as a number by both, bit by bit; fails where they differ.
+pub fn check_number(label: &str, rng: &mut Rng, kind: u32, content: &[u8]) -> Number {
+    let lent = lent_bytes(rng, content);
+    let answer = star::number_of(kind, lent.range());
+    let expected = number::number_of(kind, content);
+    let mut differences = Differences::default();
+    differences.answer("number_of", bits(answer), bits(expected));
+    differences.unchanged("content", &lent, content);
+    differences.end(expected).unwrap_or_else(|difference| {
+        let cut = &content[..content.len().min(4000)];
+        let bytes = content.len();
+        panic!("{label}, kind {kind}, {bytes} bytes:\n{}\n{difference}", escaped(cut))
+    })
+}
+
+/// Asks for each question's value as a number by both; adds to the tallies of
+/// refusals and of forms.
+fn numbers(
+    seed: u64,
+    handed: &Handed,
+    questions: &[Question],
+    tally: &mut Tally,
+    forms: &mut Forms,
+) -> Result<(), String> {
+    let rng = &mut Rng::new(seed);
+    let lent_file = lent_bytes(rng, &handed.file);
+    let lent_tables = handed.tables.each_ref().map(|table| lent_words(rng, table));
+    let (file, tables, counts) = (lent_file.range(), lend(&lent_tables), handed.counts);
+    let mut differences = Differences::default();
+    for &Question { name_row, k, .. } in questions {
+        let answer = star::value_number(file, tables, counts, name_row, k);
+        let expected = reference::value_number(file, tables, counts, name_row, k);
+        let call = format!("value_number {name_row}, {k}");
+        let one = (answer.refusal, bits(answer.number()));
+        differences.answer(&call, one, (expected.refusal, bits(expected.number())));
+        tally[expected.refusal as usize] += 1;
+        forms[expected.form as usize] += 1;
+    }
+    differences.unchanged("file", &lent_file, &handed.file);
+    for (table, name) in TABLES.into_iter().enumerate() {
+        differences.unchanged(name, &lent_tables[table], &handed.tables[table]);
+    }
+    differences.end(())
+}
+
+/// As `numbers`, failing with all that was handed in.
+pub fn check_numbers(
+    label: &str,
+    seed: u64,
+    handed: &Handed,
+    questions: &[Question],
+    tally: &mut Tally,
+    forms: &mut Forms,
+) {
+    let compared = numbers(seed, handed, questions, tally, forms);
+    compared.unwrap_or_else(|difference| fail(label, seed, handed, &difference))
 }
