@@ -2,6 +2,7 @@
 use crate::plain;
 use star_find::Counts;
 use star_find::Found;
+use star_show::float;
 use star_show::kept;
 use star_show::print;
 use star_show::words;
@@ -131,4 +132,39 @@ pub fn look(given: &[u8], file: &[u8], kept: &[u32]) {
         words::number(name),
         words::number(k),
     );
+}
+
+// Prints the form of a number, and its floats by their bits.
+fn print_number(form: u32, value: f64, uncertainty: f64) {
+    print::rows(&[form], 1, 1);
+    print::text(b" ");
+    float::show(value);
+    print::text(b" ");
+    float::show(uncertainty);
+}
+
+// Takes a content of a kind as a number and prints what came out.
+pub fn number(given: &[u8], content: &[u8]) {
+    let number = star_number::form_of(star_number::number_of(words::number(given), content));
+    print::bar();
+    print_number(number.form, number.value, number.uncertainty);
+}
+
+// Looks a value up as a number in the tables that are lent and prints refusal and number.
+pub fn value(given: &[u8], file: &[u8], kept: &[u32]) {
+    let number = star_number::value_form(star_number::value_number(
+        file,
+        kept::lent(kept, 1),
+        kept::lent(kept, 2),
+        kept::lent(kept, 3),
+        kept::lent(kept, 4),
+        kept::lent(kept, 5),
+        counts(kept),
+        words::number(given),
+        words::number(words::rest(given)),
+    ));
+    print::bar();
+    print::rows(&[number.refusal], 1, 1);
+    print::text(b" ");
+    print_number(number.form, number.value, number.uncertainty);
 }

@@ -7,6 +7,8 @@
 //     set T I W               makes word I of table T, counted from 0, be W; words 1 to 5 of table 0 are the five counts, and words 6 to 10 how
 //                             many words of each table are lent
 //     look SET NAME K BYTES   looks for the block, the frame of a set and the name of a set with these bytes, and for the k-th value of a name row
+//     number KIND CONTENT     takes a content of a kind as a number; the floats are printed by their bits
+//     value NAME K            the k-th value of a name row as a number, in the tables that are lent
 // Any other line is a remark.
 mod calls;
 mod plain;
@@ -52,6 +54,13 @@ fn run_long(size: u32) {
     run_first(&mut file, size);
 }
 
+// Takes what follows a kind as the content of a value.
+fn run_number(given: &[u8]) {
+    let mut content = words::room();
+    let size = notation::unescape(words::rest(given), &mut content);
+    calls::number(given, words::first(&content, size));
+}
+
 // Does what a line says with what it is given, over the last file.
 fn run_on(line: &[u8], given: &[u8], file: &[u8], kept: &mut [u32]) {
     match words::byte(line, 0) {
@@ -61,6 +70,8 @@ fn run_on(line: &[u8], given: &[u8], file: &[u8], kept: &mut [u32]) {
         b'w' => calls::write(file, words::number(given)),
         b's' => kept::set(given, kept),
         b'l' => calls::look(given, file, kept),
+        b'n' => run_number(given),
+        b'v' => calls::value(given, file, kept),
         _ => {}
     }
 }

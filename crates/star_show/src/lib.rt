@@ -1,5 +1,6 @@
 // What `star_cases` is written with: lines and their notation, tables that are kept, and what is printed of them.
 pub mod compare;
+pub mod float;
 pub mod kept;
 pub mod notation;
 pub mod print;
