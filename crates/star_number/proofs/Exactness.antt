@@ -104,7 +104,7 @@ div-whole (fin false m e) (fin false n d) a b h v w =
     (round-same binary64 false (m * up e * down d) (n * up d * down e) a b (mul-pos pos-n (down-pos e)) h
     (quotients (m * up e) (n * up d) a b (down e) (down d) (v .1) (w .1)))
 
-ten-pos : (k : ℕ) → 0 < 10 ^ k
+pub ten-pos : (k : ℕ) → 0 < 10 ^ k
 ten-pos k = one-le-pow k 10 (omega arith)
 
 pub rounded-once : RoundedOnce

@@ -11,3 +11,4 @@ pub mod Words
 pub mod Exactly
 pub mod Exactness
 pub mod InOrder
+pub mod Finite

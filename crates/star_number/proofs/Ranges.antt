@@ -17,7 +17,7 @@ pub whole-in-range : (m tens : ℕ) → inRangeBy m tens ≡ true → m ≤ most
 unfolding inRangeBy
 whole-in-range m tens e = leb-true m mostWhole ((and-eq-true-iff (leb m mostWhole) (leb tens mostPower)) .0 e .0)
 
-both-ranges : (m : ℕ) (e : ℤ) → inRange m e ≡ true → (m ≤ mostWhole) × (natAbs e ≤ mostPower)
+pub both-ranges : (m : ℕ) (e : ℤ) → inRange m e ≡ true → (m ≤ mostWhole) × (natAbs e ≤ mostPower)
 unfolding inRange
 both-ranges m e h =
     let (a, b) = (and-eq-true-iff (leb m mostWhole) (leb (natAbs e) mostPower)) .0 h in

@@ -1,12 +1,14 @@
 -- What is demanded of numbers: statements alone, over the pieces. Believed; star's Demands cites it.
 use mathlib.Core.Path.{_≡_}
-use mathlib.Core.Bool.{false}
+use mathlib.Core.Bool.{Bool, true, false, _&&_}
 use mathlib.Core.Logic.{_⊎_, _↔_}
 use mathlib.Core.List.{List, _∷_, _++_}
 use Prim.Native.Nat.{ℕ, suc, _*_, _^_, _≤_, _<_}
-use lib.IntN.{ℤ, pos, negsuc, natAbs}
+use lib.IntN.{pos, negsuc}
 use lib.Ieee.{Float as F64, binary64, round}
 use lib.Ieee.Exact.{HasValue}
+use lib.Ieee.Scale.{finite}
+use lib.Dec.{T}
 use lib.ListN.{length}
 use Rattle.star_text.specs.Outcome.{accepted}
 use Rattle.star_lex.specs.Tokens.{Placed}
@@ -20,7 +22,7 @@ use Rattle.star_number.specs.Number.{mostWhole, mostPower, exact, scaled
 use Rattle.star_number.specs.Taken.{numberIn}
 use Rattle.star_number.specs.Forms.{valueNumber}
 use Rattle.star_number.specs.declared.Number.{Number}
-use Rattle.star_number.specs.declared.Number.the-variants.{Float, Uncertain, TooWide}
+use Rattle.star_number.specs.declared.Number.the-variants.{Float, Uncertain, Unknown, NotApplicable, TooWide, Text}
 use Rattle.star_number.specs.declared.ValueNumber.{ValueNumber}
 use Rattle.star_number.specs.declared.ValueNumber.the-variants.{Refused, Given}
 
@@ -54,6 +56,18 @@ abbrev pub RoundedOnce : Type 0
 RoundedOnce = (m k : ℕ) → m ≤ mostWhole
     → (k ≤ mostPower → scaled m (pos k) ≡ round binary64 false (m * 10 ^ k) 1)
     × (suc k ≤ mostPower → scaled m (negsuc k) ≡ round binary64 false m (10 ^ suc k))
+
+-- no float that is answered is an infinity or no number
+unfoldable pub finiteNumber : Number → Bool
+finiteNumber (Float x) = finite x
+finiteNumber (Uncertain x u) = finite x && finite u
+finiteNumber Unknown = true
+finiteNumber NotApplicable = true
+finiteNumber TooWide = true
+finiteNumber Text = true
+
+abbrev pub FloatsFinite : Type 0
+FloatsFinite = (kind : ℕ) (content : List ℕ) → T (finiteNumber (numberIn kind content))
 
 -- after reading: the numbers of a name row, k = 1, 2, .., are those of its values in file order; past the last there is none
 abbrev pub NumbersInOrder : Type 0
