@@ -4,14 +4,13 @@ use mathlib.Core.Bool.{Bool, true, false, cond, _&&_, _||_, and-eq-true-iff}
 use mathlib.Core.Logic.{_⊎_, inl, inr}
 use mathlib.Core.List.{List, [], _∷_, _++_, append-assoc, append-nil}
 use mathlib.Core.Option.{Option, none, some, Option·some-injective}
-use Prim.Native.Nat.{ℕ, zero, suc, _+_, _≤_, _<_}
-use native.Mathlib.Omega.{arith}
-use borrow.Author.Tests.{eqb-true, leb-true, leb-false, le-leb, lt-leb, ne-eqb}
+use Prim.Native.Nat.{ℕ, _+_, _≤_}
+use borrow.Author.Tests.{eqb-true, leb-true, ne-eqb}
 use lib.Dec.{eqb, leb}
 use lib.ListN.{length, drop, length-append}
 use lib.Seq.{drop-append-seam, drop-drop}
 use Rattle.star_text.specs.Bytes.{all, leading}
-use Rattle.star_text.proofs.Bytes.{all-head, all-tail, all-append, run-append, run-all, run-passes, run-append-drop}
+use Rattle.star_text.proofs.Bytes.{all-head, all-append, run-append, run-all, run-passes, run-append-drop}
 use Rattle.star_text.proofs.Run.{never}
 use Rattle.star_text.proofs.Cases.{impossible, cond-cases}
 use Rattle.star_lex.specs.Split.{starts}

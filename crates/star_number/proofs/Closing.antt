@@ -1,22 +1,22 @@
 -- What the code holds of a bracket, by what stands at a place.
 use mathlib.Core.Path.{_≡_, refl, sym, _∙_, ap}
 use mathlib.Core.Bool.{Bool, true, false, cond, _&&_}
-use mathlib.Core.List.{List, [], _∷_}
-use mathlib.Core.Option.{Option, none, some}
-use Prim.Native.Nat.{ℕ, zero, suc, _+_, _-_, _≤_, _<_}
+use mathlib.Core.List.{List}
+use mathlib.Core.Option.{none, some}
+use Prim.Native.Nat.{ℕ, _+_, _-_, _≤_, _<_}
 use native.Mathlib.Numerals.{add-one}
 use native.Mathlib.Omega.{arith}
 use borrow.Author.Tests.{eq-eqb, ne-eqb, le-leb, lt-leb}
-use lib.Dec.{eqb, leb}
+use lib.Dec.{leb}
 use lib.ListN.{length, getD, take, drop, drop-of-length-le, length-drop}
 use lib.Seq.{take-all, drop-cons, drop-drop}
 use Rattle.star_text.specs.Bytes.{leading}
 use Rattle.star_text.proofs.Run.{run-length}
 use Rattle.star_number.specs.Pieces.{isDigit}
 use Rattle.star_number.specs.Number.{wholeNumber}
-use Rattle.star_number.specs.Taken.{isSingle, bracketAt, bracketHeld, digitsHeld, counted}
+use Rattle.star_number.specs.Taken.{isSingle, bracketAt}
+use Rattle.star_number.specs.Held.{bracketHeld, digitsHeld}
 use Rattle.star_number.specs.declared.scan.Run.{Run}
-use Rattle.star_number.specs.declared.Bracket.{Bracket}
 use Rattle.star_number.specs.declared.Bracket.the-variants.{Absent, Digits, Bad}
 
 -- what is left of a list from a place on

@@ -1,15 +1,15 @@
 -- Whole numbers from digits, and how they are counted: what is counted decides as the number itself.
-use mathlib.Core.Path.{_≡_, refl, sym, _∙_, ap}
+use mathlib.Core.Path.{_≡_, refl, sym, _∙_}
 use mathlib.Core.Logic.{_⊎_, inl, inr}
 use mathlib.Core.List.{List, [], _∷_, _++_}
-use Prim.Native.Nat.{ℕ, zero, suc, _+_, _-_, _*_, _≤_, _<_, min}
+use Prim.Native.Nat.{ℕ, _+_, _-_, _*_, _≤_, _<_}
 use native.Mathlib.Nat.{le-refl, le-trans, min-eq-left, min-eq-right}
 use native.Mathlib.Omega.{arith}
 use borrow.Author.Tests.{leb-true, leb-false}
 use lib.Dec.{leb}
 use mathlib.Core.Bool.{Bool, true, false}
-use Rattle.star_number.specs.Number.{extended, wholeNumber}
-use Rattle.star_number.specs.Taken.{mostCounted, counted}
+use Rattle.star_number.specs.Number.{extended}
+use Rattle.star_number.specs.Held.{mostCounted, counted}
 
 pub extended-append : (n : ℕ) (ds es : List ℕ) → extended n (ds ++ es) ≡ extended (extended n ds) es
 unfolding extended

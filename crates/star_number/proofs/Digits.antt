@@ -1,18 +1,17 @@
 -- Laws of `digitsHeld`: what one byte decides, and what the end gives.
-use mathlib.Core.Path.{_≡_, refl, sym, _∙_, ap}
+use mathlib.Core.Path.{_≡_, sym}
 use mathlib.Core.Bool.{true, false}
-use mathlib.Core.List.{List, [], _∷_}
+use mathlib.Core.List.{List}
 use Prim.Native.Nat.{ℕ, suc, _+_, _-_, _*_, _≤_, _<_}
 use native.Mathlib.Nat.{add-zero}
 use native.Mathlib.Numerals.{add-one}
-use native.Mathlib.Omega.{arith}
 use lib.ListN.{length, getD, drop, drop-of-length-le}
 use lib.Seq.{drop-cons}
 use Rattle.star_text.specs.Bytes.{leading}
 use Rattle.star_text.proofs.Run.{run-goes}
 use Rattle.star_number.specs.Pieces.{isDigit}
 use Rattle.star_number.specs.Number.{extended}
-use Rattle.star_number.specs.Taken.{mostCounted, counted, digitsHeld}
+use Rattle.star_number.specs.Held.{mostCounted, counted, digitsHeld}
 use Rattle.star_number.specs.declared.scan.Run.{Run}
 use Rattle.star_number.proofs.Counting.{counted-small, counted-first}
 

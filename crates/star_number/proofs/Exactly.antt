@@ -1,7 +1,6 @@
 -- A value is a number exactly when its content is pieces of one: `number-exact` and `number-pieces`.
 use mathlib.Core.Path.{_≡_, refl, sym, _∙_, ap}
 use mathlib.Core.Bool.{Bool, true, false, cond, _&&_}
-use mathlib.Core.Logic.{_⊎_, inl, inr, _↔_}
 use mathlib.Core.List.{List, [], _∷_}
 use mathlib.Core.Option.{Option, none, some, Option·some-injective}
 use Prim.Native.Nat.{ℕ}
@@ -9,11 +8,10 @@ use borrow.Author.Tests.{eqb-true, eqb-false, eq-eqb, ne-eqb}
 use lib.Dec.{eqb}
 use lib.IntN.{ℤ}
 use Rattle.star_text.proofs.Run.{never}
-use Rattle.star_text.proofs.Cases.{impossible}
 use Rattle.star_text.specs.Bytes.{leading}
 use Rattle.star_lex.specs.Split.{starts}
 use Rattle.star_lex.specs.Table.{orEmpty}
-use Rattle.star_number.specs.Pieces.{Sign, Pieces, signBytes, bytesOf, isDigit, someDigits, digitsOf, formed, Written}
+use Rattle.star_number.specs.Pieces.{Sign, Pieces, signBytes, isDigit, someDigits, digitsOf, formed, Written}
 use Rattle.star_number.specs.Number.{wholeNumber, power, scaled, signed, inRange, numberOver, numberOf, Says, number, unknown, not-applicable, other-word, other-kind}
 use Rattle.star_number.specs.Taken.{signAt, afterSign, fractionAt, front, isSingle, taken, wordNumber, numberIn}
 use Rattle.star_number.specs.Demands.{IsNumber, float, uncertain, too-wide, NumberExact, NumberPieces}

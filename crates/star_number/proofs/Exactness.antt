@@ -1,13 +1,12 @@
 -- Digits and powers of ten become floats without loss, so that one operation on them rounds once.
 use mathlib.Core.Path.{_≡_, refl, sym, _∙_, ap}
-use mathlib.Core.Bool.{Bool, true, false, cond, _&&_, and-eq-true-iff}
-use Prim.Native.Nat.{ℕ, zero, suc, _+_, _*_, _^_, _≤_, _<_}
+use mathlib.Core.Bool.{Bool, true, false, _&&_, and-eq-true-iff}
+use Prim.Native.Nat.{ℕ, zero, suc, _*_, _^_, _<_}
 use mathlib.Core.Logic.{_⊎_, inl, inr}
 use native.Mathlib.Nat.{eq-or-lt-of-le, mul-one, mul-assoc, mul-comm, mul-mul-mul-comm, mul-pos, one-le-pow}
 use native.Mathlib.Omega.{arith}
 use borrow.Author.Tests.{eqb-true, ne-eqb}
 use lib.Dec.{eqb}
-use lib.IntN.{ℤ, pos, negsuc}
 use lib.Ieee.{Float as F64, nan, inf, fin, binary64, ofInt, up, down, mul, div, round}
 use lib.Ieee.Exact.{HasValue}
 use lib.Ieee.Scale.{round-same}
@@ -15,7 +14,7 @@ use lib.Ieee.Fits.{down-pos}
 use lib.Ieee.Positive.{first-pos}
 use lib.Ieee.Back.{round-whole}
 use Rattle.star_text.proofs.Run.{never}
-use Rattle.star_number.specs.Number.{mostWhole, mostPower, exact, scaled}
+use Rattle.star_number.specs.Number.{exact, scaled}
 use Rattle.star_number.specs.Demands.{WholeExact, PowerExact, RoundedOnce}
 
 pub whole-exact : WholeExact

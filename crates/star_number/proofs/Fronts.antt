@@ -1,13 +1,13 @@
 -- What the code finds place by place is what it is to hold of the pieces before the bracket.
 use mathlib.Core.Path.{_≡_, refl, sym, _∙_, ap}
 use mathlib.Core.Bool.{Bool, true, false, cond, _&&_, and-true}
-use mathlib.Core.List.{List, [], _∷_, _++_}
+use mathlib.Core.List.{List, _++_}
 use mathlib.Core.Option.{Option, none, some}
-use Prim.Native.Nat.{ℕ, zero, suc, _+_, _-_, _≤_, _<_, _^_}
+use Prim.Native.Nat.{ℕ, _+_, _-_, _≤_, _<_, _^_}
 use native.Mathlib.Omega.{arith}
-use lib.Dec.{eqb, leb}
-use lib.IntN.{ℤ, pos, negsuc, negℤ, _-ℤ_}
-use lib.ListN.{length, getD, drop, length-append, length-drop}
+use lib.Dec.{leb}
+use lib.IntN.{pos, negℤ, _-ℤ_}
+use lib.ListN.{length, drop, length-append, length-drop}
 use lib.Seq.{drop-drop}
 use Rattle.star_text.specs.Bytes.{all, leading}
 use Rattle.star_text.proofs.Bytes.{all-append, run-passes}
@@ -16,7 +16,8 @@ use Rattle.star_lex.specs.Split.{starts}
 use Rattle.star_lex.specs.Table.{orEmpty}
 use Rattle.star_number.specs.Pieces.{Sign, unsigned, plus, minus, signBytes, Exponent, fractionBytes, exponentBytes, bracketBytes, bytesOf, isDigit, someDigits, digitsOf, exponentFormed, bracketFormed, formed}
 use Rattle.star_number.specs.Number.{extended, wholeNumber, signedWhole, written, power}
-use Rattle.star_number.specs.Taken.{signAt, afterSign, fractionAt, exponentAt, front, counted, digitsHeld, fractionHeld, isMinus, exponentMinus, exponentWhole, exponentHeld, signedBy, powerHeld, frontHeld}
+use Rattle.star_number.specs.Taken.{signAt, afterSign, fractionAt, exponentAt, front}
+use Rattle.star_number.specs.Held.{counted, digitsHeld, fractionHeld, isMinus, exponentMinus, exponentWhole, exponentHeld, signedBy, powerHeld, frontHeld}
 use Rattle.star_number.specs.declared.scan.Run.{Run}
 use Rattle.star_number.specs.declared.scan.FractionRun.{FractionRun}
 use Rattle.star_number.specs.declared.scan.ExponentRun.{ExponentRun}

@@ -1,12 +1,12 @@
 -- What the code holds of a point, an exponent and a sign, by what stands at a place.
 use mathlib.Core.Path.{_≡_, refl, sym, _∙_, ap}
 use mathlib.Core.Bool.{Bool, true, false, cond, _&&_, _||_, and-true}
-use mathlib.Core.List.{List, [], _∷_, _++_}
-use mathlib.Core.Option.{Option, none, some}
+use mathlib.Core.List.{List, [], _∷_}
+use mathlib.Core.Option.{none, some}
 use Prim.Native.Nat.{ℕ, zero, suc, _+_, _-_, _≤_, _<_}
 use native.Mathlib.Nat.{add-zero}
 use native.Mathlib.Omega.{arith}
-use borrow.Author.Tests.{ltb-true, ltb-false, lt-ltb, le-ltb, le-leb, lt-leb, eqb-true, eqb-false, ne-eqb}
+use borrow.Author.Tests.{ltb-true, ltb-false, lt-ltb, le-ltb, le-leb, eqb-true, eqb-false, ne-eqb}
 use lib.Dec.{eqb, leb, ltb}
 use lib.ListN.{length, getD, drop, length-append}
 use lib.Seq.{drop-drop}
@@ -16,9 +16,10 @@ use Rattle.star_text.proofs.Run.{never}
 use Rattle.star_lex.specs.Split.{starts}
 use Rattle.star_lex.specs.Table.{orEmpty}
 use Rattle.star_lex.proofs.Closing.{starts-end}
-use Rattle.star_number.specs.Pieces.{Sign, unsigned, plus, minus, signBytes, Exponent, fractionBytes, exponentBytes, isDigit, someDigits, exponentFormed}
+use Rattle.star_number.specs.Pieces.{Sign, unsigned, plus, minus, signBytes, fractionBytes, exponentBytes, isDigit, someDigits, exponentFormed}
 use Rattle.star_number.specs.Number.{extended, wholeNumber}
-use Rattle.star_number.specs.Taken.{signAt, afterSign, fractionAt, exponentAt, mostCounted, counted, digitsHeld, fractionHeld, isMinus, isLetter, exponentMinus, exponentWhole, exponentHeld}
+use Rattle.star_number.specs.Taken.{signAt, afterSign, fractionAt, exponentAt}
+use Rattle.star_number.specs.Held.{mostCounted, digitsHeld, fractionHeld, isMinus, isLetter, exponentMinus, exponentWhole, exponentHeld}
 use Rattle.star_number.specs.declared.scan.Run.{Run}
 use Rattle.star_number.specs.declared.scan.FractionRun.{FractionRun}
 use Rattle.star_number.specs.declared.scan.ExponentRun.{ExponentRun}

@@ -1,10 +1,8 @@
 -- The numbers of a name row are those of its values, and any lookup answers a number, 13 or 14.
-use mathlib.Core.Path.{_≡_, refl, sym, _∙_, ap}
-use mathlib.Core.List.{List, []}
+use mathlib.Core.List.{List}
 use Prim.Native.Nat.{ℕ}
-use Rattle.star_find.specs.Find.{Lent, valueAt, valuePart, valueSpan}
+use Rattle.star_find.specs.Find.{valueAt, valuePart, valueSpan}
 use Rattle.star_find.specs.Demands.{ValueAnswer, at, nowhere, outside}
-use Rattle.star_find.specs.declared.Counts.{Counts}
 use Rattle.star_find.specs.declared.Value.{Value}
 use Rattle.star_find.specs.declared.Span.{Span}
 use Rattle.star_find.proofs.Lookup.{values-in-order}

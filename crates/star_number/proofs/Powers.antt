@@ -1,14 +1,13 @@
 -- Laws of the power of ten, as the code holds it: of a difference of whole numbers, and of one that is counted.
 use mathlib.Core.Path.{_≡_, refl, sym, _∙_, ap}
-use mathlib.Core.Bool.{Bool, true, false, cond}
+use mathlib.Core.Bool.{Bool, true, false}
 use mathlib.Core.Logic.{_⊎_, inl, inr}
 use Prim.Native.Nat.{ℕ, zero, suc, _+_, _-_, _≤_, _<_, _^_, min}
-use native.Mathlib.Nat.{add-zero, min-eq-left, min-eq-right}
 use native.Mathlib.Omega.{arith}
 use borrow.Author.Tests.{lt-ltb, le-ltb}
 use lib.Dec.{ltb}
-use lib.IntN.{ℤ, pos, negsuc, negℤ, _+ℤ_, _-ℤ_, negℤ-+ℤ}
-use Rattle.star_number.specs.Taken.{mostCounted, counted, signedBy, isNegative, powerHeld}
+use lib.IntN.{pos, negsuc, negℤ, _+ℤ_, _-ℤ_, negℤ-+ℤ}
+use Rattle.star_number.specs.Held.{mostCounted, counted, signedBy, isNegative, powerHeld}
 use Rattle.star_number.specs.declared.scan.Power.{Power}
 use Rattle.star_number.proofs.Counting.{order, counted-small, counted-most}
 

@@ -1,8 +1,8 @@
 -- What is counted is in range exactly as the number itself, and is the number where it is in range.
-use mathlib.Core.Path.{_≡_, refl, sym, _∙_, ap}
-use mathlib.Core.Bool.{Bool, true, false, cond, _&&_, and-eq-true-iff}
+use mathlib.Core.Path.{_≡_, refl, sym, _∙_}
+use mathlib.Core.Bool.{true, cond, and-eq-true-iff}
 use mathlib.Core.Logic.{_⊎_, inl, inr}
-use Prim.Native.Nat.{ℕ, zero, suc, _+_, _-_, _≤_, _<_, min}
+use Prim.Native.Nat.{ℕ, _-_, _≤_, _<_, min}
 use native.Mathlib.Omega.{arith}
 use borrow.Author.Tests.{leb-true, le-leb, lt-leb}
 use lib.Dec.{leb}
@@ -10,8 +10,8 @@ use lib.IntN.{ℤ, pos, negsuc, natAbs}
 use lib.Ieee.{Float as F64, neg}
 use Rattle.star_number.specs.Pieces.{Sign, unsigned, plus, minus}
 use Rattle.star_number.specs.Number.{mostWhole, mostPower, inRange, scaled, signed}
-use Rattle.star_number.specs.Taken.{mostCounted, counted, inRangeBy, scaledBy, isNegative, isMinus}
-use Rattle.star_number.proofs.Counting.{order, counted-small, counted-most}
+use Rattle.star_number.specs.Held.{counted, inRangeBy, scaledBy, isNegative, isMinus}
+use Rattle.star_number.proofs.Counting.{order, counted-small}
 
 pub whole-in-range : (m tens : ℕ) → inRangeBy m tens ≡ true → m ≤ mostWhole
 unfolding inRangeBy

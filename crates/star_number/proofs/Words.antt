@@ -4,11 +4,12 @@ use mathlib.Core.Bool.{Bool, true, false, cond, _&&_}
 use mathlib.Core.List.{List}
 use mathlib.Core.Option.{Option, none, some}
 use Prim.Native.Nat.{ℕ, min}
-use lib.IntN.{ℤ, pos, natAbs}
+use lib.IntN.{ℤ, natAbs}
 use lib.ListN.{length, drop}
-use Rattle.star_number.specs.Pieces.{Sign, Pieces, bytesOf, digitsOf, formed}
+use Rattle.star_number.specs.Pieces.{Sign, bytesOf, digitsOf, formed}
 use Rattle.star_number.specs.Number.{mostPower, wholeNumber, power, inRange, scaled, signed, numberOver, numberOf}
-use Rattle.star_number.specs.Taken.{front, bracketAt, withBracket, taken, wordNumber, counted, isMinus, isNegative, powerHeld, frontHeld, bracketHeld, inRangeBy, scaledBy, floatHeld, bareHeld, uncertainHeld}
+use Rattle.star_number.specs.Taken.{front, bracketAt, withBracket, taken, wordNumber}
+use Rattle.star_number.specs.Held.{counted, isMinus, isNegative, powerHeld, frontHeld, bracketHeld, scaledBy, floatHeld, bareHeld, uncertainHeld}
 use Rattle.star_number.specs.declared.Number.{Number}
 use Rattle.star_number.specs.declared.Number.the-variants.{Float, Uncertain, TooWide, Text}
 use Rattle.star_number.specs.declared.scan.Front.{Front}

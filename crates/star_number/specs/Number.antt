@@ -1,12 +1,12 @@
 -- What a value is as a number: specification 17. Believed; the contracts of star_number and the demands cite it.
 use mathlib.Core.Path.{_≡_}
-use mathlib.Core.Bool.{Bool, true, cond, _&&_}
+use mathlib.Core.Bool.{Bool, cond, _&&_}
 use mathlib.Core.List.{List, [], _∷_}
 use mathlib.Core.Option.{Option, none, some}
 use Prim.Native.Nat.{ℕ, suc, _+_, _-_, _*_, _^_}
 use lib.Dec.{leb}
 use lib.IntN.{ℤ, pos, negsuc, negℤ, natAbs, _-ℤ_}
-use lib.Ieee.{Float as F64, fin, binary64, ofInt, mul, div, neg}
+use lib.Ieee.{Float as F64, binary64, ofInt, mul, div, neg}
 use lib.ListN.{length}
 use Rattle.star_lex.specs.Table.{orEmpty}
 use Rattle.star_number.specs.Pieces.{Sign, unsigned, plus, minus, Exponent, Pieces, digitsOf, Written}

@@ -4,7 +4,7 @@ ghost use mathlib.Core.Bool.{cond};
 ghost use Prim.Native.Nat.{_≤_, _^_, min};
 ghost use lib.Ieee.{neg};
 ghost use Rattle.star_number.specs.Number.{mostWhole, mostPower, exact};
-ghost use Rattle.star_number.specs.Taken.{inRangeBy, scaledBy};
+ghost use Rattle.star_number.specs.Held.{inRangeBy, scaledBy};
 
 // The greatest whole number and the greatest power of ten that are taken.
 const MOST_WHOLE: u64 = 9007199254740992;

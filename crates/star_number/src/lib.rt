@@ -8,7 +8,8 @@ ghost use mathlib.Core.Path.{_≡_};
 ghost use lib.ListN.{drop};
 ghost use Rattle.star_find.specs.Find.{lent};
 ghost use Rattle.star_number.specs.Forms.{formOf, valueNumber, valueFormOf};
-ghost use Rattle.star_number.specs.Taken.{isSingle, bracketAt, bracketHeld, bareHeld, uncertainHeld, taken, wordNumber, numberIn};
+ghost use Rattle.star_number.specs.Taken.{isSingle, bracketAt, taken, wordNumber, numberIn};
+ghost use Rattle.star_number.specs.Held.{bracketHeld, bareHeld, uncertainHeld};
 
 // What a value is: a float, a float with its uncertainty, unknown, not applicable, a number that is too wide, or text.
 pub enum Number {

@@ -6,7 +6,8 @@ ghost use lib.Dec.{leb};
 ghost use lib.IntN.{pos, _-ℤ_};
 ghost use lib.ListN.{length, drop};
 ghost use Rattle.star_number.specs.Pieces.{isDigit, signBytes};
-ghost use Rattle.star_number.specs.Taken.{signAt, fractionAt, exponentAt, mostCounted, counted, signedBy, isLetter, digitsHeld, fractionHeld, exponentHeld, powerHeld, frontHeld};
+ghost use Rattle.star_number.specs.Taken.{signAt, fractionAt, exponentAt};
+ghost use Rattle.star_number.specs.Held.{mostCounted, counted, signedBy, isLetter, digitsHeld, fractionHeld, exponentHeld, powerHeld, frontHeld};
 
 // Whole numbers are counted up to here: above every limit, and more than a content has bytes.
 const MOST_COUNTED: u64 = 10000000000000000000;

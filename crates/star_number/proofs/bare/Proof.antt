@@ -1,7 +1,7 @@
 -- `bare` meets its contract.
 use mathlib.Core.Path.{sym, _∙_}
 use borrow.Author.Needs.{needs}
-use Rattle.star_number.specs.Taken.{bareHeld, floatHeld}
+use Rattle.star_number.specs.Held.{bareHeld, floatHeld}
 use Rattle.star_number.proofs.Ranges.{whole-in-range}
 use Rattle.star_number.proofs.bare.Statement.{statement}
 use Rattle.star_number.proofs.bare.Tie as tie

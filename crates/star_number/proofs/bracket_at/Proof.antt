@@ -5,7 +5,8 @@ use mathlib.Core.List.{List}
 use Prim.Native.Nat.{ℕ, _+_, _≤_}
 use denote.Ref.{now}
 use lib.ListN.{length, drop}
-use Rattle.star_number.specs.Taken.{isSingle, bracketAt, bracketHeld}
+use Rattle.star_number.specs.Taken.{isSingle, bracketAt}
+use Rattle.star_number.specs.Held.{bracketHeld}
 use Rattle.star_number.specs.declared.Bracket.the-variants.{Digits, Bad}
 use Rattle.star_number.proofs.Closing.{rest-all, bracket-absent, bracket-other, run-within, bracket-empty, bracket-closed}
 use borrow.Author.Needs.{needs}

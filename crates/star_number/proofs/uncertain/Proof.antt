@@ -2,7 +2,7 @@
 use mathlib.Core.Path.{sym, _∙_}
 use borrow.Author.Needs.{needs}
 use borrow.Author.Tests.{not-true, not-false}
-use Rattle.star_number.specs.Taken.{uncertainHeld, floatHeld}
+use Rattle.star_number.specs.Held.{uncertainHeld, floatHeld}
 use Rattle.star_number.proofs.Ranges.{whole-in-range}
 use Rattle.star_number.proofs.uncertain.Statement.{statement}
 use Rattle.star_number.proofs.uncertain.Tie as tie

@@ -1,5 +1,4 @@
 -- `value_form` meets its contract.
-use mathlib.Core.Path.{_≡_, sym, _∙_}
 use lib.Ieee.{ofBits}
 use Rattle.star_number.specs.Forms.{valueFormOf}
 use borrow.Author.Needs.{needs}

@@ -5,7 +5,8 @@ use Prim.Native.Nat.{ℕ}
 use borrow.Author.Tests.{not-true, not-false}
 use denote.Ref.{now}
 use Rattle.star_number.specs.Pieces.{formed}
-use Rattle.star_number.specs.Taken.{front, taken, wordNumber, frontHeld}
+use Rattle.star_number.specs.Taken.{front, taken, wordNumber}
+use Rattle.star_number.specs.Held.{frontHeld}
 use Rattle.star_number.proofs.Words.{heldNumber, word-other, word-held}
 use borrow.Author.Needs.{needs}
 use Rattle.star_number.proofs.word_number.Statement.{statement}

@@ -1,6 +1,6 @@
 -- `in_range` meets its contract.
 use borrow.Author.Tests.{le-leb, lt-leb}
-use Rattle.star_number.specs.Taken.{inRangeBy}
+use Rattle.star_number.specs.Held.{inRangeBy}
 use Rattle.star_number.proofs.float.in_range.Statement.{statement}
 use Rattle.star_number.proofs.float.in_range.Tie as tie
 

@@ -1,9 +1,9 @@
 -- `power_of_ten` meets its contract: each constant is the float of its power.
-use mathlib.Core.Path.{_≡_, refl, _∙_, ap}
+use mathlib.Core.Path.{_≡_, refl}
 use Prim.Native.Nat.{ℕ, zero, suc, _^_, _≤_, min, zero-le}
 use native.Mathlib.Nat.{min-eq-right}
 use native.Mathlib.Omega.{arith}
-use lib.Ieee.{Float, binary64, ofBits, ofInt}
+use lib.Ieee.{Float, ofBits, ofInt}
 use Rattle.star_number.specs.Number.{mostPower, exact}
 use Rattle.star_number.proofs.float.power_of_ten.Statement.{statement}
 use Rattle.star_number.proofs.float.power_of_ten.Tie as tie

@@ -3,7 +3,7 @@ use native.Mathlib.Omega.{arith}
 use lib.Dec.{le→leb}
 use lib.Ieee.{inFloat}
 use Rattle.star_number.specs.Number.{exact}
-use Rattle.star_number.specs.Taken.{scaledBy}
+use Rattle.star_number.specs.Held.{scaledBy}
 use borrow.Author.Needs.{needs}
 use Rattle.star_number.proofs.float.scaled.Statement.{statement}
 use Rattle.star_number.proofs.float.scaled.Tie as tie

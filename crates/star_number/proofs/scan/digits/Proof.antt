@@ -6,7 +6,7 @@ use borrow.Author.Needs.{needs}
 use borrow.Author.Tests.{not-true, not-false}
 use denote.Ref.{now}
 use lib.ListN.{length, drop}
-use Rattle.star_number.specs.Taken.{mostCounted, digitsHeld}
+use Rattle.star_number.specs.Held.{mostCounted, digitsHeld}
 use Rattle.star_number.proofs.Counting.{counted-le}
 use Rattle.star_number.proofs.Digits.{digits-go, digits-stop, digits-end}
 use Rattle.star_number.proofs.scan.digits.Statement.{statement}

@@ -6,7 +6,7 @@ use native.Mathlib.Omega.{arith}
 use borrow.Author.Tests.{not-true, not-false}
 use denote.Ref.{now}
 use lib.ListN.{length, drop}
-use Rattle.star_number.specs.Taken.{isLetter}
+use Rattle.star_number.specs.Held.{isLetter}
 use Rattle.star_number.proofs.Held.{letter-inside, exponent-none, exponent-some, sign-length-le}
 use borrow.Author.Needs.{needs}
 use Rattle.star_number.proofs.scan.exponent_at.Statement.{statement}

@@ -8,7 +8,7 @@ use lib.Dec.{leb}
 use lib.ListN.{length, drop}
 use Rattle.star_lex.specs.Split.{starts}
 use Rattle.star_number.specs.declared.scan.Front.{Front}
-use Rattle.star_number.specs.Taken.{digitsHeld, frontHeld}
+use Rattle.star_number.specs.Held.{digitsHeld, frontHeld}
 use Rattle.star_number.proofs.Counting.{counted-le}
 use Rattle.star_number.proofs.Fronts.{front-held}
 use borrow.Author.Needs.{needs}

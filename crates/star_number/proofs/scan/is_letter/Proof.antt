@@ -1,6 +1,6 @@
 -- `is_letter` meets its contract.
 use mathlib.Core.Path.{sym, _∙_}
-use Rattle.star_number.specs.Taken.{isLetter}
+use Rattle.star_number.specs.Held.{isLetter}
 use borrow.Author.Needs.{needs}
 use Rattle.star_number.proofs.scan.is_letter.Statement.{statement}
 use Rattle.star_number.proofs.scan.is_letter.Tie as tie
