@@ -9,6 +9,7 @@ use Rattle.star_find.proofs.Lookup.{lookup-by-name, lookup-block, lookup-frame,
 use Rattle.star_number.proofs.Exactly.{number-exact, number-pieces}
 use Rattle.star_number.proofs.Exactness.{whole-exact, power-exact, rounded-once}
 use Rattle.star_number.proofs.Finite.{floats-finite}
+use Rattle.star_number.proofs.Known.{numbers-known}
 use Rattle.star_number.proofs.InOrder.{numbers-in-order, numbers-answer}
 use Rattle.star_write.proofs.Demand1.{write-answers}
 use Rattle.star_write.proofs.RoundTrip.{round-trip, writes-again}
@@ -35,4 +36,4 @@ demand-3 = (
 )
 
 pub numbers : Numbers
-numbers = (number-exact, number-pieces, whole-exact, power-exact, rounded-once, floats-finite, numbers-in-order)
+numbers = (number-exact, number-pieces, whole-exact, power-exact, rounded-once, floats-finite, numbers-known, numbers-in-order)

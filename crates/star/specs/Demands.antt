@@ -3,7 +3,7 @@
 use Rattle.star_lex.specs.Rules.{today}
 use Rattle.star_read.specs.Demands.{Usable, AcceptedExactly, OneReading, RowsOfReading, PlaceOfRefusal, RefusalNumber, NumbersExclude, ReadingSettled, OneOutcome, ReadAnswers}
 use Rattle.star_find.specs.Demands.{LookupByName, LookupBlock, LookupFrame, ValuesInOrder, SpanPart, LookupsAnswer, ValuesAnswer}
-use Rattle.star_number.specs.Demands.{NumberExact, NumberPieces, WholeExact, PowerExact, RoundedOnce, FloatsFinite, NumbersInOrder, NumbersAnswer}
+use Rattle.star_number.specs.Demands.{NumberExact, NumberPieces, WholeExact, PowerExact, RoundedOnce, FloatsFinite, NumbersKnown, NumbersInOrder, NumbersAnswer}
 use Rattle.star_write.specs.Demands.{RoundTrip, WritesAgain, WriteAnswers}
 
 -- for every input of every call the number is 0 or one that the call may give, with its place in range; on a refusal what was lent for writing is 0,
@@ -25,4 +25,4 @@ Demand3 = Usable today × AcceptedExactly × OneReading × RowsOfReading × Plac
 -- request 101: a value is a number exactly when its content is pieces of one, in one way, and is theirs; the floats of digits and powers of ten are without loss, so
 -- that a number in range is rounded once, and none is infinite; and after reading the numbers of a name are those of its values in file order
 abbrev pub Numbers : Type 0
-Numbers = NumberExact × NumberPieces × WholeExact × PowerExact × RoundedOnce × FloatsFinite × NumbersInOrder
+Numbers = NumberExact × NumberPieces × WholeExact × PowerExact × RoundedOnce × FloatsFinite × NumbersKnown × NumbersInOrder

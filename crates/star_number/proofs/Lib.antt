@@ -12,3 +12,4 @@ pub mod Exactly
 pub mod Exactness
 pub mod InOrder
 pub mod Finite
+pub mod Known

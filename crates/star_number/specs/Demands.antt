@@ -2,10 +2,10 @@
 use mathlib.Core.Path.{_≡_}
 use mathlib.Core.Bool.{Bool, true, false, _&&_}
 use mathlib.Core.Logic.{_⊎_, _↔_}
-use mathlib.Core.List.{List, _∷_, _++_}
+use mathlib.Core.List.{List, [], _∷_, _++_}
 use Prim.Native.Nat.{ℕ, suc, _*_, _^_, _≤_, _<_}
 use lib.IntN.{pos, negsuc}
-use lib.Ieee.{Float as F64, binary64, round}
+use lib.Ieee.{Float as F64, fin, binary64, div, round}
 use lib.Ieee.Exact.{HasValue}
 use lib.Ieee.Scale.{finite}
 use lib.Dec.{T}
@@ -68,6 +68,12 @@ finiteNumber Text = true
 
 abbrev pub FloatsFinite : Type 0
 FloatsFinite = (kind : ℕ) (content : List ℕ) → T (finiteNumber (numberIn kind content))
+
+-- `8.53(1)` is 853 / 100 with the uncertainty 1 / 100, and `-0` is negative zero
+abbrev pub NumbersKnown : Type 0
+NumbersKnown =
+    (numberIn 7 (56 ∷ 46 ∷ 53 ∷ 51 ∷ 40 ∷ 49 ∷ 41 ∷ []) ≡ Uncertain (div binary64 (exact 853) (exact 100)) (div binary64 (exact 1) (exact 100)))
+    × (numberIn 7 (45 ∷ 48 ∷ []) ≡ Float (fin true 0 (pos 0)))
 
 -- after reading: the numbers of a name row, k = 1, 2, .., are those of its values in file order; past the last there is none
 abbrev pub NumbersInOrder : Type 0
