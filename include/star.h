@@ -79,8 +79,9 @@
  * a call writes must not overlap any other range lent to the same call. That
  * is all a caller owes: any bytes, words, counts and numbers may be handed in,
  * also tables that no reading made. A call writes nothing outside the ranges
- * that are lent to it without const, its answer depends on what is lent alone,
- * and nothing lent is kept after it returns.
+ * that are lent to it without const, its answer depends on what is lent alone
+ * (the floats of a number also on the processor's rounding mode, above), and
+ * nothing lent is kept after it returns.
  */
 #ifndef STAR_H
 #define STAR_H
