@@ -1,4 +1,4 @@
-//! Numbers with uncertainty, written from request 101 alone.
+//! Numbers with uncertainty, written from the specification alone (its section 17).
 //!
 //! The content is taken apart at its brackets, its exponent and its point, and
 //! rounding is done here in whole numbers: no float is computed with.
@@ -200,7 +200,7 @@ mod tests {
         }
     }
 
-    /// The examples of the request and the readings of it that are settled.
+    /// The examples of the specification.
     #[test]
     fn known_numbers_are_answered() {
         let float = |value: f64| (FLOAT, value.to_bits(), 0);
