@@ -375,7 +375,7 @@ star_part star_value_part(const uint8_t *file, size_t file_len,
 /*
  * Answers a content of this kind as a number, by the rules above. The kind may
  * be any number, and the content any bytes of any length: no count of digits
- * and no exponent is too large to be told.
+ * and no exponent is too large to be counted.
  *
  * Refusals: none.
  * Afterwards: all lent memory is as it was.

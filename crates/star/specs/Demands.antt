@@ -22,7 +22,7 @@ abbrev pub Demand3 : Type 0
 Demand3 = Usable today × AcceptedExactly × OneReading × RowsOfReading × PlaceOfRefusal × RefusalNumber × NumbersExclude × LookupByName × ReadingSettled
     × OneOutcome
 
--- request 101: a value is a number exactly when its content is pieces of one, in one way, and is theirs; the floats of digits and powers of ten are without loss, so
+-- specification 17: a value is a number exactly when its content is pieces of one, in one way, and is theirs; the floats of digits and powers of ten are without loss, so
 -- that a number in range is rounded once, and none is infinite; and after reading the numbers of a name are those of its values in file order
 abbrev pub Numbers : Type 0
 Numbers = NumberExact × NumberPieces × WholeExact × PowerExact × RoundedOnce × FloatsFinite × NumbersKnown × NumbersInOrder

@@ -169,7 +169,7 @@ pub extern "C" fn star_value_number(
     ensures { λ r. ⌜ r ≡ valueFormOf (valueNumber (lent (now (file .entry)) (now (tokens .entry)) (now (sets .entry)) (now (names .entry)) (now (packets .entry))
         (now (values .entry))) counts name k) ⌝ }
 {
-    star_number::value_form(star_number::value_number(
+    let found = star_number::value_number(
         file,
         tokens,
         sets,
@@ -179,7 +179,8 @@ pub extern "C" fn star_value_number(
         counts,
         name,
         k,
-    ))
+    );
+    star_number::value_form(found)
 }
 
 // Reads a file into the five tables and writes its plain form. On a refusal length, counts, tables and output are all 0.

@@ -1,6 +1,6 @@
 -- A content that is pieces is taken apart into them, and what it is taken apart into is pieces of it.
 use mathlib.Core.Path.{_≡_, refl, sym, _∙_, ap}
-use mathlib.Core.Bool.{Bool, true, false, cond, _&&_, _||_, and-eq-true-iff}
+use mathlib.Core.Bool.{Bool, true, false, cond, _&&_, _||_}
 use mathlib.Core.Logic.{_⊎_, inl, inr}
 use mathlib.Core.List.{List, [], _∷_, _++_, append-assoc, append-nil}
 use mathlib.Core.Option.{Option, none, some, Option·some-injective}
@@ -12,19 +12,15 @@ use lib.Seq.{drop-append-seam, drop-drop}
 use Rattle.star_text.specs.Bytes.{all, leading}
 use Rattle.star_text.proofs.Bytes.{all-head, all-append, run-append, run-all, run-passes, run-append-drop}
 use Rattle.star_text.proofs.Run.{never}
-use Rattle.star_text.proofs.Cases.{impossible, cond-cases}
+use Rattle.star_text.proofs.Cases.{impossible, cond-cases, both}
 use Rattle.star_lex.specs.Split.{starts}
 use Rattle.star_lex.specs.Table.{orEmpty}
-use Rattle.star_number.specs.Pieces.{Sign, unsigned, plus, minus, signBytes, Exponent, Pieces, fractionBytes, exponentBytes, bracketBytes, bytesOf, isDigit, someDigits, digitsOf, exponentFormed, bracketFormed, formed, Written}
+use Rattle.star_number.specs.Pieces.{Sign, unsigned, plus, minus, signBytes, Exponent, Pieces, fractionBytes, exponentBytes, bracketBytes, bytesOf, isDigit, someDigits, isLetter, digitsOf, exponentFormed, bracketFormed, formed, Written}
 use Rattle.star_number.specs.Taken.{signAt, afterSign, fractionAt, exponentAt, front, isSingle, bracketAt, withBracket, taken}
-
--- both of two tests
-both : (a b : Bool) → (a && b) ≡ true → (a ≡ true) × (b ≡ true)
-both a b e = (and-eq-true-iff a b) .0 e
 
 -- ---- what follows a piece does not go on with it
 
--- a list that begins with no digit
+-- the first byte passes a test
 unfoldable pub first : (ℕ → Bool) → List ℕ → Bool
 first p [] = false
 first p (b ∷ bs) = p b
@@ -80,14 +76,15 @@ module _ (ds : Option (List ℕ)) where
       by (some ds) = refl
 
   bracket-letter : exponentAt (bracketBytes ds) ≡ none
-  unfolding exponentAt bracketBytes
+  unfolding exponentAt bracketBytes isLetter
   bracket-letter = by ds
     where
       by : (o : Option (List ℕ)) → exponentAt (bracketBytes o) ≡ none
       by none = refl
       by (some ds) = refl
 
-letter-cases : (b : ℕ) → (eqb b 101 || eqb b 69) ≡ true → (b ≡ 101) ⊎ (b ≡ 69)
+letter-cases : (b : ℕ) → isLetter b ≡ true → (b ≡ 101) ⊎ (b ≡ 69)
+unfolding isLetter
 letter-cases b e = go (eqb b 101) refl e
   where
     go : (t : Bool) → eqb b 101 ≡ t → (t || eqb b 69) ≡ true → (b ≡ 101) ⊎ (b ≡ 69)
@@ -95,16 +92,16 @@ letter-cases b e = go (eqb b 101) refl e
     go false q f = inr (eqb-true b 69 f)
 
 -- a letter of an exponent is no digit and no point
-letter-apart : (b : ℕ) → (eqb b 101 || eqb b 69) ≡ true → (p : ℕ → Bool) → p 101 ≡ false → p 69 ≡ false → p b ≡ false
+letter-apart : (b : ℕ) → isLetter b ≡ true → (p : ℕ → Bool) → p 101 ≡ false → p 69 ≡ false → p b ≡ false
 letter-apart b e p f g = go (letter-cases b e)
   where
     go : (b ≡ 101) ⊎ (b ≡ 69) → p b ≡ false
     go (inl q) = rw q f
     go (inr q) = rw q g
 
-exponent-parts : (x : Exponent) → exponentFormed (some x) ≡ true → ((eqb (x .letter) 101 || eqb (x .letter) 69) ≡ true) × (someDigits (x .digits) ≡ true)
+exponent-parts : (x : Exponent) → exponentFormed (some x) ≡ true → (isLetter (x .letter) ≡ true) × (someDigits (x .digits) ≡ true)
 unfolding exponentFormed
-exponent-parts x e = both (eqb (x .letter) 101 || eqb (x .letter) 69) (someDigits (x .digits)) e
+exponent-parts x e = both (isLetter (x .letter)) (someDigits (x .digits)) e
 
 module _ (x : Option Exponent) (ds : Option (List ℕ)) (e : exponentFormed x ≡ true) where
   exponent-digit : first isDigit (exponentBytes x ++ bracketBytes ds) ≡ false
@@ -130,7 +127,7 @@ module _ (x : Option Exponent) (ds : Option (List ℕ)) (e : exponentFormed x �
       by : (x : Option Exponent) → exponentFormed x ≡ true → exponentAt (exponentBytes x ++ bracketBytes ds) ≡ x
       by none e = bracket-letter ds
       by (some x) e =
-          let l : (eqb (x .letter) 101 || eqb (x .letter) 69) ≡ true = exponent-parts x e .0 in
+          let l : isLetter (x .letter) ≡ true = exponent-parts x e .0 in
           let s : someDigits (x .digits) ≡ true = exponent-parts x e .1 in
           let p : starts 43 (x .digits ++ bracketBytes ds) ≡ false = digits-start 43 (x .digits) (bracketBytes ds) refl s in
           let m : starts 45 (x .digits ++ bracketBytes ds) ≡ false = digits-start 45 (x .digits) (bracketBytes ds) refl s in
@@ -263,7 +260,7 @@ fraction-leads (b ∷ bs) = by (eqb b 46) refl
 exponent-leads : (bs : List ℕ) → Leads (exponentBytes (exponentAt bs)) bs
 unfolding exponentAt exponentBytes afterSign
 exponent-leads [] = refl
-exponent-leads (b ∷ bs) = by (eqb b 101 || eqb b 69)
+exponent-leads (b ∷ bs) = by (isLetter b)
   where
     by : (t : Bool)
         → Leads (exponentBytes (cond t (some (record { letter = b; sign = signAt bs; digits = leading isDigit (afterSign bs) })) none)) (b ∷ bs)

@@ -3,7 +3,7 @@ use mathlib.Core.Path.{_≡_, refl, sym, _∙_}
 use mathlib.Core.Logic.{_⊎_, inl, inr}
 use mathlib.Core.List.{List, [], _∷_, _++_}
 use Prim.Native.Nat.{ℕ, _+_, _-_, _*_, _≤_, _<_}
-use native.Mathlib.Nat.{le-refl, le-trans, min-eq-left, min-eq-right}
+use native.Mathlib.Nat.{le-refl, le-trans, min-eq-left, min-eq-right, min-le-right}
 use native.Mathlib.Omega.{arith}
 use borrow.Author.Tests.{leb-true, leb-false}
 use lib.Dec.{leb}
@@ -39,11 +39,8 @@ unfolding counted
 counted-most n h = min-eq-right h
 
 pub counted-le : (n : ℕ) → counted n ≤ mostCounted
-counted-le n = by (order n mostCounted)
-  where
-    by : (n ≤ mostCounted) ⊎ (mostCounted < n) → counted n ≤ mostCounted
-    by (inl h) = omega (arith, counted-small n h)
-    by (inr h) = omega (arith, counted-most n (omega arith))
+unfolding counted
+counted-le n = min-le-right n mostCounted
 
 -- digits after a counted number count as after the number
 pub counted-first : (n : ℕ) (ds : List ℕ) → counted (extended (counted n) ds) ≡ counted (extended n ds)

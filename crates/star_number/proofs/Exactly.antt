@@ -28,11 +28,11 @@ number-pieces content p q w v = Option·some-injective p q (sym (taken-as conten
 -- ---- the answer is what the value says
 
 not-written : (content : List ℕ) → taken content ≡ none → (p : Pieces) → Written content p → ⊥
-not-written content e p w = never (ap isSome (sym (taken-as content p w) ∙ e))
+not-written content e p w = never (ap isNone (sym (taken-as content p w) ∙ e))
   where
-    isSome : Option Pieces → Bool
-    isSome none = true
-    isSome (some p) = false
+    isNone : Option Pieces → Bool
+    isNone none = true
+    isNone (some p) = false
 
 -- `?` and `.` are no pieces
 mark-apart : (b : ℕ) (content : List ℕ) (p : Pieces) → taken (b ∷ []) ≡ none → Written content p → isSingle b content ≡ false

@@ -1,18 +1,18 @@
 -- Digits and powers of ten become floats without loss, so that one operation on them rounds once.
 use mathlib.Core.Path.{_≡_, refl, sym, _∙_, ap}
-use mathlib.Core.Bool.{Bool, true, false, _&&_, and-eq-true-iff}
-use Prim.Native.Nat.{ℕ, zero, suc, _*_, _^_, _<_}
-use mathlib.Core.Logic.{_⊎_, inl, inr}
-use native.Mathlib.Nat.{eq-or-lt-of-le, mul-one, mul-assoc, mul-comm, mul-mul-mul-comm, mul-pos, one-le-pow}
+use mathlib.Core.Bool.{Bool, true, false}
+use Prim.Native.Nat.{ℕ, suc, _*_, _^_, _<_}
+use native.Mathlib.Nat.{mul-one, mul-assoc, mul-comm, mul-mul-mul-comm, mul-pos, one-le-pow}
 use native.Mathlib.Omega.{arith}
-use borrow.Author.Tests.{eqb-true, ne-eqb}
-use lib.Dec.{eqb}
+use borrow.Author.Tests.{ne-eqb}
+use lib.Dec.{T, eqb, eqb→eq}
 use lib.Ieee.{Float as F64, nan, inf, fin, binary64, ofInt, up, down, mul, div, round}
 use lib.Ieee.Exact.{HasValue}
 use lib.Ieee.Scale.{round-same}
 use lib.Ieee.Fits.{down-pos}
 use lib.Ieee.Positive.{first-pos}
 use lib.Ieee.Back.{round-whole}
+use Rattle.star_text.proofs.Classes.{below, below-at}
 use Rattle.star_text.proofs.Run.{never}
 use Rattle.star_number.specs.Number.{exact, scaled}
 use Rattle.star_number.specs.Demands.{WholeExact, PowerExact, RoundedOnce}
@@ -28,36 +28,20 @@ isWhole (inf s) n = false
 isWhole (fin true m e) n = false
 isWhole (fin false m e) n = eqb (m * up e * 1) (n * down e)
 
-is-whole : (x : F64) (n : ℕ) → isWhole x n ≡ true → HasValue x false n 1
+is-whole : (x : F64) (n : ℕ) → T (isWhole x n) → HasValue x false n 1
 unfolding isWhole
-is-whole nan n e = never e
-is-whole (inf s) n e = never e
-is-whole (fin true m k) n e = never e
-is-whole (fin false m k) n e = (refl, eqb-true (m * up k * 1) (n * down k) e)
-
--- a test of all numbers below k
-allBelow : (ℕ → Bool) → ℕ → Bool
-allBelow t zero = true
-allBelow t (suc k) = t k && allBelow t k
-
-all-below : (t : ℕ → Bool) (k : ℕ) → allBelow t k ≡ true → (n : ℕ) → n < k → t n ≡ true
-unfolding allBelow
-all-below t zero e n h = absurd (omega arith)
-all-below t (suc k) e n h =
-    let (a, b) = (and-eq-true-iff (t k) (allBelow t k)) .0 e in
-    by a (λ q. all-below t k b n q) (eq-or-lt-of-le (omega arith))
-  where
-    by : t k ≡ true → (n < k → t n ≡ true) → (n ≡ k) ⊎ (n < k) → t n ≡ true
-    by a f (inl q) = rw q a
-    by a f (inr q) = f q
+is-whole nan n t = absurd t
+is-whole (inf s) n t = absurd t
+is-whole (fin true m k) n t = absurd t
+is-whole (fin false m k) n t = (refl, eqb→eq (m * up k * 1) (n * down k) t)
 
 -- computed for each power
-powers-whole : allBelow (λ k. isWhole (exact (10 ^ k)) (10 ^ k)) 23 ≡ true
-unfolding allBelow isWhole exact ofInt
-powers-whole = refl
+powers-whole : T (below (λ k. isWhole (exact (10 ^ k)) (10 ^ k)) 23)
+unfolding below isWhole exact ofInt
+powers-whole = tt
 
 pub power-exact : PowerExact
-power-exact k h = is-whole (exact (10 ^ k)) (10 ^ k) (all-below (λ k. isWhole (exact (10 ^ k)) (10 ^ k)) 23 powers-whole k (omega arith))
+power-exact k h = is-whole (exact (10 ^ k)) (10 ^ k) (below-at (λ k. isWhole (exact (10 ^ k)) (10 ^ k)) 23 k powers-whole (omega arith))
 
 -- ---- one operation on two whole numbers that are floats without loss
 

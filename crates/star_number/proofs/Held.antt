@@ -16,10 +16,10 @@ use Rattle.star_text.proofs.Run.{never}
 use Rattle.star_lex.specs.Split.{starts}
 use Rattle.star_lex.specs.Table.{orEmpty}
 use Rattle.star_lex.proofs.Closing.{starts-end}
-use Rattle.star_number.specs.Pieces.{Sign, unsigned, plus, minus, signBytes, fractionBytes, exponentBytes, isDigit, someDigits, exponentFormed}
+use Rattle.star_number.specs.Pieces.{Sign, unsigned, plus, minus, signBytes, fractionBytes, exponentBytes, isDigit, isLetter, someDigits, exponentFormed}
 use Rattle.star_number.specs.Number.{extended, wholeNumber}
 use Rattle.star_number.specs.Taken.{signAt, afterSign, fractionAt, exponentAt}
-use Rattle.star_number.specs.Held.{mostCounted, digitsHeld, fractionHeld, isMinus, isLetter, exponentMinus, exponentWhole, exponentHeld}
+use Rattle.star_number.specs.Held.{mostCounted, digitsHeld, fractionHeld, isMinus, letterNext, exponentMinus, exponentWhole, exponentHeld}
 use Rattle.star_number.specs.declared.scan.Run.{Run}
 use Rattle.star_number.specs.declared.scan.FractionRun.{FractionRun}
 use Rattle.star_number.specs.declared.scan.ExponentRun.{ExponentRun}
@@ -71,29 +71,33 @@ minus-at (b ∷ bs) = by (eqb b 43) refl
     by false e = rest (eqb b 45)
 
 -- an exponent by its letter and what follows it
-letter-none : (bs : List ℕ) → isLetter bs ≡ false → exponentAt bs ≡ none
-unfolding isLetter exponentAt starts
+letter-none : (bs : List ℕ) → letterNext bs ≡ false → exponentAt bs ≡ none
+unfolding letterNext exponentAt
 letter-none [] e = refl
 letter-none (b ∷ bs) e = rw e
 
-letter-some : (bs : List ℕ) → isLetter bs ≡ true
+letter-some : (bs : List ℕ) → letterNext bs ≡ true
     → exponentAt bs ≡ some (record { letter = getD bs 0 0; sign = signAt (drop 1 bs); digits = leading isDigit (afterSign (drop 1 bs)) })
-unfolding isLetter exponentAt starts
+unfolding letterNext exponentAt
 letter-some [] e = never e
 letter-some (b ∷ bs) e = rw e
 
-letter-byte : (bs : List ℕ) → isLetter bs ≡ true → (eqb (getD bs 0 0) 101 || eqb (getD bs 0 0) 69) ≡ true
-unfolding isLetter starts
+letter-byte : (bs : List ℕ) → letterNext bs ≡ true → isLetter (getD bs 0 0) ≡ true
+unfolding letterNext
 letter-byte [] e = never e
 letter-byte (b ∷ bs) e = e
 
-pub letter-inside : (content : List ℕ) (at : ℕ) → isLetter (drop at content) ≡ true → at < length content
-unfolding isLetter
-letter-inside content at e = by (starts 101 (drop at content)) refl e
+pub letter-next : (bs : List ℕ) → (starts 101 bs || starts 69 bs) ≡ letterNext bs
+unfolding starts letterNext isLetter
+letter-next [] = refl
+letter-next (b ∷ bs) = refl
+
+pub letter-inside : (content : List ℕ) (at : ℕ) → letterNext (drop at content) ≡ true → at < length content
+letter-inside content at e = by (starts 101 (drop at content)) refl (letter-next (drop at content) ∙ e)
   where
-    by : (t : Bool) → starts 101 (drop at content) ≡ t → (t || starts 69 (drop at content)) ≡ true → at < length content
+    by : (t : Bool) → starts 101 (drop at content) ≡ t → (starts 101 (drop at content) || starts 69 (drop at content)) ≡ true → at < length content
     by true q f = inside 101 content at q
-    by false q f = inside 69 content at f
+    by false q f = inside 69 content at (rw q at f)
 
 pub sign-length-le : (bs : List ℕ) → length (signBytes (signAt bs)) ≤ 1
 unfolding signBytes
@@ -113,12 +117,12 @@ run-some from n = and-true (leb 1 n) ∙ by n
     by (suc n) = le-leb 1 (suc n) (omega arith) ∙ sym (lt-ltb from (from + suc n) (omega arith))
 
 module _ (content : List ℕ) (at : ℕ) where
-  pub exponent-none : isLetter (drop at content) ≡ false
+  pub exponent-none : letterNext (drop at content) ≡ false
       → exponentHeld at (exponentAt (drop at content)) ≡ record { ok = true; end = at; negative = false; value = 0 }
   unfolding exponentHeld exponentFormed exponentBytes exponentMinus exponentWhole
   exponent-none e = rw (letter-none (drop at content) e) (exponent-same refl (add-zero at) refl (counted-small 0 (omega arith)))
 
-  pub exponent-some : isLetter (drop at content) ≡ true → (from : ℕ) → from ≡ at + 1 + length (signBytes (signAt (drop (at + 1) content)))
+  pub exponent-some : letterNext (drop at content) ≡ true → (from : ℕ) → from ≡ at + 1 + length (signBytes (signAt (drop (at + 1) content)))
       → (r : Run) → r ≡ digitsHeld 0 from (drop from content)
       → exponentHeld at (exponentAt (drop at content)) ≡ record { ok = ltb from (r .end); end = r .end; negative = starts 45 (drop (at + 1) content); value = r .value }
   unfolding exponentHeld exponentFormed exponentBytes exponentMinus exponentWhole someDigits wholeNumber digitsHeld afterSign

@@ -8,7 +8,7 @@ use Rattle.star_find.specs.declared.Span.{Span}
 use Rattle.star_find.proofs.Lookup.{values-in-order}
 use Rattle.star_find.proofs.Demand1.{values-answer}
 use Rattle.star_number.specs.Taken.{numberIn}
-use Rattle.star_number.specs.Forms.{valueNumber, valueNumberOf}
+use Rattle.star_number.specs.Forms.{valueNumber, valueNumberOf, valueFormOf}
 use Rattle.star_number.specs.Demands.{NumbersInOrder, NumberAnswer, given, nowhere as number-nowhere, outside as number-outside, NumbersAnswer}
 
 pub numbers-in-order : NumbersInOrder
@@ -19,8 +19,8 @@ numbers-in-order file words ps rows e name l h =
       λ k o. rw (v .1 k o .0),
     )
 
-answered : (file : List ℕ) (v : Value) (s : Span) (part : List ℕ) → ValueAnswer file v s part → NumberAnswer (valueNumberOf v part)
-unfolding valueNumberOf
+answered : (file : List ℕ) (v : Value) (s : Span) (part : List ℕ) → ValueAnswer file v s part → NumberAnswer (valueNumberOf v part) (valueFormOf (valueNumberOf v part))
+unfolding valueNumberOf valueFormOf
 answered file _ _ _ (at kind packet start end l h) = given (numberIn kind _)
 answered file _ _ _ nowhere = number-nowhere
 answered file _ _ _ outside = number-outside

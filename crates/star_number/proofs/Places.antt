@@ -1,12 +1,13 @@
 -- What a byte at a place, a list of one byte and a digit say of each other.
 use mathlib.Core.Path.{_≡_, refl}
-use mathlib.Core.Bool.{true, false, and-eq-true-iff}
+use mathlib.Core.Bool.{true, false}
 use mathlib.Core.List.{List, [], _∷_}
 use Prim.Native.Nat.{ℕ, _≤_}
 use native.Mathlib.Omega.{arith}
 use borrow.Author.Tests.{leb-true}
 use lib.Dec.{leb, eqb}
 use lib.ListN.{length, getD}
+use Rattle.star_text.proofs.Cases.{both}
 use Rattle.star_number.specs.Pieces.{isDigit}
 use Rattle.star_number.specs.Taken.{isSingle}
 
@@ -24,8 +25,8 @@ single-other b (x ∷ y ∷ xs) h = refl
 
 pub digit-low : (b : ℕ) → isDigit b ≡ true → 48 ≤ b
 unfolding isDigit
-digit-low b e = leb-true 48 b ((and-eq-true-iff (leb 48 b) (leb b 57)) .0 e .0)
+digit-low b e = leb-true 48 b (both (leb 48 b) (leb b 57) e .0)
 
 pub digit-high : (b : ℕ) → isDigit b ≡ true → b ≤ 57
 unfolding isDigit
-digit-high b e = leb-true b 57 ((and-eq-true-iff (leb 48 b) (leb b 57)) .0 e .1)
+digit-high b e = leb-true b 57 (both (leb 48 b) (leb b 57) e .1)

@@ -7,9 +7,9 @@ use Prim.Native.Nat.{ℕ, min}
 use lib.IntN.{ℤ, natAbs}
 use lib.ListN.{length, drop}
 use Rattle.star_number.specs.Pieces.{Sign, bytesOf, digitsOf, formed}
-use Rattle.star_number.specs.Number.{mostPower, wholeNumber, power, inRange, scaled, signed, numberOver, numberOf}
+use Rattle.star_number.specs.Number.{wholeNumber, power, inRange, scaled, signed, numberOver, numberOf}
 use Rattle.star_number.specs.Taken.{front, bracketAt, withBracket, taken, wordNumber}
-use Rattle.star_number.specs.Held.{counted, isMinus, isNegative, powerHeld, frontHeld, bracketHeld, scaledBy, floatHeld, bareHeld, uncertainHeld}
+use Rattle.star_number.specs.Held.{counted, isMinus, isNegative, powerHeld, frontHeld, bracketHeld, scaledBy, tenTo, beyondPower, floatHeld, bareHeld, uncertainHeld}
 use Rattle.star_number.specs.declared.Number.{Number}
 use Rattle.star_number.specs.declared.Number.the-variants.{Float, Uncertain, TooWide, Text}
 use Rattle.star_number.specs.declared.scan.Front.{Front}
@@ -39,7 +39,7 @@ module _ (ok : Bool) (s : Sign) (m : ℕ) (e : ℤ) (end : ℕ) where
   uncertain-same ds = rw (range-same m e, range-same (wholeNumber ds) e) (by (inRange m e) refl (inRange (wholeNumber ds) e) refl)
     where
       by : (t : Bool) → inRange m e ≡ t → (u : Bool) → inRange (wholeNumber ds) e ≡ u
-          → cond (t && u) (Uncertain (floatHeld (held ok s m e end)) (scaledBy (isNegative e) (counted (wholeNumber ds)) (min (min (natAbs e) 23) mostPower))) TooWide
+          → cond (t && u) (Uncertain (floatHeld (held ok s m e end)) (scaledBy (isNegative e) (counted (wholeNumber ds)) (tenTo (min (natAbs e) beyondPower)))) TooWide
           ≡ cond (t && u) (Uncertain (signed s (scaled m e)) (scaled (wholeNumber ds) e)) TooWide
       by true h true g = rw (float-same h, scaled-same (wholeNumber ds) e g)
       by true h false g = refl

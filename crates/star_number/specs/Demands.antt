@@ -20,9 +20,10 @@ use Rattle.star_find.specs.declared.Counts.{Counts}
 use Rattle.star_number.specs.Pieces.{Pieces, Written}
 use Rattle.star_number.specs.Number.{mostWhole, mostPower, exact, scaled, numberOf, Says}
 use Rattle.star_number.specs.Taken.{numberIn}
-use Rattle.star_number.specs.Forms.{valueNumber}
+use Rattle.star_number.specs.Forms.{valueNumber, zeroFloat, form, formOf, valueForm, valueFormOf}
 use Rattle.star_number.specs.declared.Number.{Number}
 use Rattle.star_number.specs.declared.Number.the-variants.{Float, Uncertain, Unknown, NotApplicable, TooWide, Text}
+use Rattle.star_number.specs.declared.ValueForm.{ValueForm}
 use Rattle.star_number.specs.declared.ValueNumber.{ValueNumber}
 use Rattle.star_number.specs.declared.ValueNumber.the-variants.{Refused, Given}
 
@@ -51,7 +52,7 @@ WholeExact = (n : ℕ) → n ≤ mostWhole → HasValue (exact n) false n 1
 abbrev pub PowerExact : Type 0
 PowerExact = (k : ℕ) → k ≤ mostPower → HasValue (exact (10 ^ k)) false (10 ^ k) 1
 
--- so a number in range is the float that is nearest to m times ten to the e, rounded once
+-- so m and e in range give the float that is nearest to m times ten to the e, rounded once
 abbrev pub RoundedOnce : Type 0
 RoundedOnce = (m k : ℕ) → m ≤ mostWhole
     → (k ≤ mostPower → scaled m (pos k) ≡ round binary64 false (m * 10 ^ k) 1)
@@ -84,11 +85,11 @@ NumbersInOrder = (file : List ℕ) (words : Sizes) (ps : List Placed) (rows : Ro
     × ((k : ℕ) → (k ≡ 0) ⊎ (length (ofName name (rows .values)) < k)
     → valueNumber (lentAfter file words) (countsAfter file words) name k ≡ Refused 13)
 
--- demand 1, of any file, tables, counts and numbers: a number, or 13 or 14
-pub data NumberAnswer : ValueNumber → Type 0 where
-  given : (n : Number) → NumberAnswer (Given n)
-  nowhere : NumberAnswer (Refused 13)
-  outside : NumberAnswer (Refused 14)
+-- demand 1, of any file, tables, counts and numbers: a number with its form; or 13 or 14, and then form 0 and both floats are 0
+pub data NumberAnswer : ValueNumber → ValueForm → Type 0 where
+  given : (n : Number) → NumberAnswer (Given n) (valueForm 0 (formOf n))
+  nowhere : NumberAnswer (Refused 13) (valueForm 13 (form 0 zeroFloat zeroFloat))
+  outside : NumberAnswer (Refused 14) (valueForm 14 (form 0 zeroFloat zeroFloat))
 
 abbrev pub NumbersAnswer : Type 0
-NumbersAnswer = (l : Lent) (c : Counts) (name k : ℕ) → NumberAnswer (valueNumber l c name k)
+NumbersAnswer = (l : Lent) (c : Counts) (name k : ℕ) → NumberAnswer (valueNumber l c name k) (valueFormOf (valueNumber l c name k))

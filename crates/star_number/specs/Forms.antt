@@ -39,7 +39,7 @@ formOf NotApplicable = form 4 zeroFloat zeroFloat
 formOf TooWide = form 5 zeroFloat zeroFloat
 formOf Text = form 6 zeroFloat zeroFloat
 
--- after its refusal; a refused value has form 0
+-- preceded by the refusal; a refused value has form 0
 abbrev pub valueForm : (refusal : ℕ) → Form → ValueForm
 valueForm refusal f = record { refusal = refusal; form = f .form; value = f .value; uncertainty = f .uncertainty }
 

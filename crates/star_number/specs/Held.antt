@@ -1,17 +1,15 @@
 -- What the functions of star_number hold of the pieces of a content, and what they answer of that. The contracts of its inner functions cite it.
-use mathlib.Core.Bool.{Bool, true, false, cond, _&&_, _||_}
-use mathlib.Core.List.{List}
+use mathlib.Core.Bool.{Bool, true, false, cond, _&&_}
+use mathlib.Core.List.{List, [], _∷_}
 use mathlib.Core.Option.{Option, none, some}
-use Prim.Native.Nat.{ℕ, _+_, _^_, min}
-use lib.Dec.{leb}
+use Prim.Native.Nat.{ℕ, suc, _+_, _^_, min}
 use lib.IntN.{ℤ, pos, negsuc, negℤ, natAbs}
 use lib.Ieee.{Float as F64, binary64, mul, div, neg}
 use lib.ListN.{length}
 use Rattle.star_text.specs.Bytes.{leading}
-use Rattle.star_lex.specs.Split.{starts}
 use Rattle.star_lex.specs.Table.{orEmpty}
-use Rattle.star_number.specs.Pieces.{Sign, unsigned, plus, minus, Exponent, Pieces, fractionBytes, exponentBytes, bytesOf, isDigit, digitsOf, exponentFormed, formed}
-use Rattle.star_number.specs.Number.{mostWhole, mostPower, extended, wholeNumber, power, exact}
+use Rattle.star_number.specs.Pieces.{Sign, unsigned, plus, minus, isLetter, Exponent, Pieces, fractionBytes, exponentBytes, bytesOf, isDigit, digitsOf, exponentFormed, formed}
+use Rattle.star_number.specs.Number.{mostPower, extended, wholeNumber, power, exact, inRange}
 use Rattle.star_number.specs.Taken.{front}
 use Rattle.star_number.specs.declared.Number.{Number}
 use Rattle.star_number.specs.declared.Number.the-variants.{Float, Uncertain, TooWide}
@@ -43,8 +41,10 @@ isMinus unsigned = false
 isMinus plus = false
 isMinus minus = true
 
-unfoldable pub isLetter : List ℕ → Bool
-isLetter bs = starts 101 bs || starts 69 bs
+-- the next byte is the letter of an exponent
+unfoldable pub letterNext : List ℕ → Bool
+letterNext [] = false
+letterNext (b ∷ bs) = isLetter b
 
 unfoldable pub exponentMinus : Option Exponent → Bool
 exponentMinus none = false
@@ -65,9 +65,12 @@ unfoldable pub isNegative : ℤ → Bool
 isNegative (pos k) = false
 isNegative (negsuc k) = true
 
--- powers of ten are counted up to 23, the first that is too great
+-- powers of ten are counted up to the first that is too great
+abbrev pub beyondPower : ℕ
+beyondPower = suc mostPower
+
 unfoldable pub powerHeld : ℤ → Power
-powerHeld e = record { over = isNegative e; tens = min (natAbs e) 23 }
+powerHeld e = record { over = isNegative e; tens = min (natAbs e) beyondPower }
 
 unfoldable pub frontHeld : List ℕ → Front
 frontHeld content =
@@ -86,22 +89,23 @@ bracketHeld none = Bad
 bracketHeld (some none) = Absent
 bracketHeld (some (some ds)) = Digits (counted (wholeNumber ds))
 
-unfoldable pub scaledBy : (over : Bool) → (m tens : ℕ) → F64
-scaledBy over m tens = cond over (div binary64 (exact m) (exact (10 ^ tens))) (mul binary64 (exact m) (exact (10 ^ tens)))
+unfoldable pub scaledBy : (over : Bool) → (m : ℕ) → (ten : F64) → F64
+scaledBy over m ten = cond over (div binary64 (exact m) ten) (mul binary64 (exact m) ten)
+
+-- ten to a power, and to the greatest where it is above
+unfoldable pub tenTo : (tens : ℕ) → F64
+tenTo tens = exact (10 ^ min tens mostPower)
 
 unfoldable pub floatHeld : Front → F64
 floatHeld f =
-    let x : F64 = scaledBy (f .over) (f .digits) (min (f .tens) mostPower) in
+    let x : F64 = scaledBy (f .over) (f .digits) (tenTo (f .tens)) in
     cond (f .negative) (neg x) x
 
-unfoldable pub inRangeBy : (m tens : ℕ) → Bool
-inRangeBy m tens = leb m mostWhole && leb tens mostPower
-
 unfoldable pub bareHeld : Front → Number
-bareHeld f = cond (inRangeBy (f .digits) (f .tens)) (Float (floatHeld f)) TooWide
+bareHeld f = cond (inRange (f .digits) (pos (f .tens))) (Float (floatHeld f)) TooWide
 
 unfoldable pub uncertainHeld : Front → (digits : ℕ) → Number
 uncertainHeld f digits =
-    cond (inRangeBy (f .digits) (f .tens) && inRangeBy digits (f .tens))
-    (Uncertain (floatHeld f) (scaledBy (f .over) digits (min (f .tens) mostPower)))
+    cond (inRange (f .digits) (pos (f .tens)) && inRange digits (pos (f .tens)))
+    (Uncertain (floatHeld f) (scaledBy (f .over) digits (tenTo (f .tens))))
     TooWide

@@ -1,4 +1,4 @@
--- The pieces that a number is written with: specification 17.2. Believed; star_number's Number, Demands and Taken cite it.
+-- The pieces that a number is written with: specification 17.2. Believed; the other definitions of star_number cite it.
 use mathlib.Core.Path.{_≡_}
 use mathlib.Core.Bool.{Bool, true, _&&_, _||_}
 use mathlib.Core.List.{List, [], _∷_, _++_}
@@ -26,7 +26,11 @@ signBytes unsigned = []
 signBytes plus = 43 ∷ []
 signBytes minus = 45 ∷ []
 
--- an exponent: its letter, `e` or `E`, an optional sign and digits
+-- the letter of an exponent: `e` or `E`
+unfoldable pub isLetter : ℕ → Bool
+isLetter b = eqb b 101 || eqb b 69
+
+-- an exponent: its letter, an optional sign and digits
 pub record Exponent : Type 0 where
   pub letter : ℕ
   pub sign : Sign
@@ -62,7 +66,7 @@ digitsOf p = p .whole ++ orEmpty (p .fraction)
 
 unfoldable pub exponentFormed : Option Exponent → Bool
 exponentFormed none = true
-exponentFormed (some x) = (eqb (x .letter) 101 || eqb (x .letter) 69) && someDigits (x .digits)
+exponentFormed (some x) = isLetter (x .letter) && someDigits (x .digits)
 
 unfoldable pub bracketFormed : Option (List ℕ) → Bool
 bracketFormed none = true

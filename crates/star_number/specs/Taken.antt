@@ -1,6 +1,6 @@
--- A content taken apart from its front, and what a value is by that. The contracts of `number_of` and star_number_of cite `numberIn`; `number-exact` says without it what it
--- gives.
-use mathlib.Core.Bool.{Bool, false, cond, _&&_, _||_}
+-- A content taken apart from its front, and what a value is by that. Forms, Held, Demands and the contracts of `number_of` and `star_number_of` cite it; `number-exact` says without it what
+-- `numberIn` gives.
+use mathlib.Core.Bool.{Bool, false, cond, _&&_}
 use mathlib.Core.List.{List, [], _∷_}
 use mathlib.Core.Option.{Option, none, some}
 use Prim.Native.Nat.{ℕ}
@@ -8,7 +8,7 @@ use lib.Dec.{eqb, leb}
 use lib.ListN.{length, drop}
 use Rattle.star_text.specs.Bytes.{leading}
 use Rattle.star_lex.specs.Split.{starts}
-use Rattle.star_number.specs.Pieces.{Sign, unsigned, plus, minus, signBytes, Exponent, Pieces, fractionBytes, bytesOf, isDigit, formed}
+use Rattle.star_number.specs.Pieces.{Sign, unsigned, plus, minus, signBytes, Exponent, Pieces, fractionBytes, bytesOf, isDigit, isLetter, formed}
 use Rattle.star_number.specs.Number.{numberOf}
 use Rattle.star_number.specs.declared.Number.{Number}
 use Rattle.star_number.specs.declared.Number.the-variants.{Unknown, NotApplicable, Text}
@@ -26,9 +26,7 @@ fractionAt bs = cond (starts 46 bs) (some (leading isDigit (drop 1 bs))) none
 unfoldable pub exponentAt : List ℕ → Option Exponent
 exponentAt [] = none
 exponentAt (b ∷ bs) =
-    cond (eqb b 101 || eqb b 69)
-    (some (record { letter = b; sign = signAt bs; digits = leading isDigit (afterSign bs) }))
-    none
+    cond (isLetter b) (some (record { letter = b; sign = signAt bs; digits = leading isDigit (afterSign bs) })) none
 
 -- all pieces but the bracket
 unfoldable pub front : List ℕ → Pieces

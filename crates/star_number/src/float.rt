@@ -1,10 +1,11 @@
 // Floats from whole numbers and powers of ten.
 ghost use mathlib.Core.Path.{_≡_};
 ghost use mathlib.Core.Bool.{cond};
-ghost use Prim.Native.Nat.{_≤_, _^_, min};
+ghost use Prim.Native.Nat.{_≤_};
+ghost use lib.IntN.{pos};
 ghost use lib.Ieee.{neg};
-ghost use Rattle.star_number.specs.Number.{mostWhole, mostPower, exact};
-ghost use Rattle.star_number.specs.Held.{inRangeBy, scaledBy};
+ghost use Rattle.star_number.specs.Number.{mostWhole, inRange};
+ghost use Rattle.star_number.specs.Held.{scaledBy, tenTo};
 
 // The greatest whole number and the greatest power of ten that are taken.
 const MOST_WHOLE: u64 = 9007199254740992;
@@ -13,7 +14,7 @@ const MOST_POWER: u64 = 22;
 
 // Whether a whole number and a power of ten are taken.
 pub(crate) fn in_range(m: u64, tens: u64) -> bool
-    ensures { λ r. ⌜ r ≡ inRangeBy m tens ⌝ }
+    ensures { λ r. ⌜ r ≡ inRange m (pos tens) ⌝ }
 {
     if m <= MOST_WHOLE {
         tens <= MOST_POWER
@@ -23,8 +24,8 @@ pub(crate) fn in_range(m: u64, tens: u64) -> bool
 }
 
 // Ten to this power, and to 22 where it is above.
-fn power_of_ten(tens: u64) -> f64
-    ensures { λ r. ⌜ r ≡ exact (10 ^ min tens mostPower) ⌝ }
+pub(crate) fn power_of_ten(tens: u64) -> f64
+    ensures { λ r. ⌜ r ≡ tenTo tens ⌝ }
 {
     match tens {
         0 => 1.0,
@@ -54,16 +55,12 @@ fn power_of_ten(tens: u64) -> f64
 }
 
 // A whole number times a power of ten, or divided by it.
-pub(crate) fn scaled(m: u64, over: bool, tens: u64) -> f64
+pub(crate) fn scaled(m: u64, over: bool, ten: f64) -> f64
     requires { ⌜ m ≤ mostWhole ⌝ }
-    ensures { λ r. ⌜ r ≡ scaledBy over m (min tens mostPower) ⌝ }
+    ensures { λ r. ⌜ r ≡ scaledBy over m ten ⌝ }
 {
     let whole = m as f64;
-    if over {
-        whole / power_of_ten(tens)
-    } else {
-        whole * power_of_ten(tens)
-    }
+    if over { whole / ten } else { whole * ten }
 }
 
 // A float with its sign.

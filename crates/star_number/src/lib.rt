@@ -35,7 +35,7 @@ pub struct Form {
     pub uncertainty: f64,
 }
 
-// The same of a value, after its refusal; a refused one has form 0.
+// The same of a value, preceded by its refusal; a refused one has form 0.
 #[repr(C)]
 pub struct ValueForm {
     pub refusal: u32,
@@ -89,7 +89,8 @@ fn bare(f: Front) -> Number
     ensures { λ r. ⌜ r ≡ bareHeld f ⌝ }
 {
     if float::in_range(f.digits, f.tens) {
-        Number::Float(float::signed(f.negative, float::scaled(f.digits, f.over, f.tens)))
+        let ten = float::power_of_ten(f.tens);
+        Number::Float(float::signed(f.negative, float::scaled(f.digits, f.over, ten)))
     } else {
         Number::TooWide
     }
@@ -105,8 +106,9 @@ fn uncertain(f: Front, digits: u64) -> Number
     if !float::in_range(digits, f.tens) {
         return Number::TooWide;
     }
-    let value = float::signed(f.negative, float::scaled(f.digits, f.over, f.tens));
-    Number::Uncertain(value, float::scaled(digits, f.over, f.tens))
+    let ten = float::power_of_ten(f.tens);
+    let value = float::signed(f.negative, float::scaled(f.digits, f.over, ten));
+    Number::Uncertain(value, float::scaled(digits, f.over, ten))
 }
 
 // The number that a word is, or text.

@@ -7,7 +7,7 @@ ghost use lib.IntN.{pos, _-ℤ_};
 ghost use lib.ListN.{length, drop};
 ghost use Rattle.star_number.specs.Pieces.{isDigit, signBytes};
 ghost use Rattle.star_number.specs.Taken.{signAt, fractionAt, exponentAt};
-ghost use Rattle.star_number.specs.Held.{mostCounted, counted, signedBy, isLetter, digitsHeld, fractionHeld, exponentHeld, powerHeld, frontHeld};
+ghost use Rattle.star_number.specs.Held.{mostCounted, counted, signedBy, letterNext, beyondPower, digitsHeld, fractionHeld, exponentHeld, powerHeld, frontHeld};
 
 // Whole numbers are counted up to here: above every limit, and more than a content has bytes.
 const MOST_COUNTED: u64 = 10000000000000000000;
@@ -15,9 +15,9 @@ const MOST_COUNTED: u64 = 10000000000000000000;
 const TENTH_OF_MOST: u64 = 1000000000000000000;
 
 // Powers of ten are counted up to here, the first that is too great.
-const FAR: u64 = 23;
+const BEYOND_POWER: u64 = 23;
 
-// Digits: where they end, and the whole number that they are after those before them.
+// Digits: where they end, and the whole number of them and the digits before.
 pub struct Run {
     pub end: usize,
     pub value: u64,
@@ -132,7 +132,7 @@ fn fraction_at(content: &[u8], at: usize, value: u64) -> FractionRun
 
 // Whether the letter of an exponent stands at a place.
 fn is_letter(content: &[u8], at: usize) -> bool
-    ensures { λ r. ⌜ r ≡ isLetter (drop at (now (content .entry))) ⌝ }
+    ensures { λ r. ⌜ r ≡ letterNext (drop at (now (content .entry))) ⌝ }
 {
     if star_lex::scan::byte_at(content, at, b'e') {
         true
@@ -164,10 +164,10 @@ fn exponent_at(content: &[u8], at: usize) -> ExponentRun
 }
 
 // A power of ten, counted.
-fn near(k: u64) -> u64
-    ensures { λ r. ⌜ r ≡ min k 23 ⌝ }
+fn capped(k: u64) -> u64
+    ensures { λ r. ⌜ r ≡ min k beyondPower ⌝ }
 {
-    if k < FAR { k } else { FAR }
+    if k < BEYOND_POWER { k } else { BEYOND_POWER }
 }
 
 // The written exponent less the digits after the point.
@@ -175,7 +175,7 @@ fn power_of(negative: bool, value: u64, after: u64) -> Power
     ensures { λ r. ⌜ r ≡ powerHeld (signedBy negative value -ℤ pos after) ⌝ }
 {
     if negative {
-        let k = near(near(value) + near(after));
+        let k = capped(capped(value) + capped(after));
         return Power {
             over: 0 < k,
             tens: k,
@@ -184,12 +184,12 @@ fn power_of(negative: bool, value: u64, after: u64) -> Power
     if after <= value {
         Power {
             over: false,
-            tens: near(value - after),
+            tens: capped(value - after),
         }
     } else {
         Power {
             over: true,
-            tens: near(after - value),
+            tens: capped(after - value),
         }
     }
 }

@@ -25,7 +25,7 @@ unfoldable pub below : (ℕ → Bool) → ℕ → Bool
 below f zero = true
 below f (suc n) = f n && below f n
 
-below-at : (f : ℕ → Bool) (n b : ℕ) → T (below f n) → b < n → T (f b)
+pub below-at : (f : ℕ → Bool) (n b : ℕ) → T (below f n) → b < n → T (f b)
 unfolding below
 below-at f zero b t h = absurd (not-suc-le-zero h)
 below-at f (suc n) b t h = go (below-at f n b (both-right (f n) (below f n) t)) (eqb b n) refl

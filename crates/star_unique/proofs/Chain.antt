@@ -8,7 +8,7 @@ use native.Mathlib.Omega.{arith}
 use lib.Dec.{eqb, leb}
 use borrow.Author.Tests.{eqb-true, eq-eqb, ne-eqb, le-leb, lt-leb}
 use Rattle.star_lex.specs.Tokens.{Token}
-use Rattle.star_lex.proofs.Cases.{impossible}
+use Rattle.star_text.proofs.Cases.{impossible, both}
 use Rattle.star_text.specs.Names.{key, same}
 use Rattle.star_unique.specs.Chain.{sortAt, mix, bucketOf, bucketAt, latest, earlier}
 use Rattle.star_text.proofs.Names.{same-true}
@@ -50,11 +50,6 @@ mix-below h (c ∷ x) k = mix-below ((h * 2685 + c) % 4096) x (mod-lt (h * 2685 
 pub bucket-below : (sort : ℕ) (x : List ℕ) → bucketOf sort x < 4096
 unfolding bucketOf
 bucket-below sort x = mix-below (sort % 4096) (key x) (mod-lt sort (omega arith))
-
-pub both : (s t : Bool) → (s && t) ≡ true → (s ≡ true) × (t ≡ true)
-both true true e = (refl, refl)
-both true false e = impossible cc
-both false t e = impossible cc
 
 module _ (at : ℕ → Token) (n : ℕ) where
   pub bucket-named : (sortAt at n ≡ 0 → ⊥) → bucketAt at n ≡ bucketOf (sortAt at n) (at n .content)

@@ -9,15 +9,24 @@ use Rattle.star_number.proofs.bare.Tie as tie
 in-range-requires : tie.Need-in-range-requires
 in-range-requires c κs = search needs
 
+power-of-ten-requires : tie.Need-power-of-ten-requires
+power-of-ten-requires c κs = search needs
+
 scaled-requires : tie.Need-scaled-requires
-scaled-requires c κs = whole-in-range _ _ (sym (c .before .in-range .ensures) ∙ c .if1 .taken)
+scaled-requires c κs = whole-in-range _ _ (sym (c .before .before .in-range .ensures) ∙ c .before .if1 .taken)
 
 signed-requires : tie.Need-signed-requires
 signed-requires c κs = search needs
 
 returns : tie.Need-returns
 unfolding bareHeld floatHeld
-returns c = rw (c .signed .ensures, c .before .scaled .ensures, sym (c .before .before .before .in-range .ensures) ∙ c .before .before .if1 .taken)
+returns c =
+    rw (
+      c .signed .ensures,
+      c .before .scaled .ensures,
+      c .before .before .power-of-ten .ensures,
+      sym (c .before .before .before .before .in-range .ensures) ∙ c .before .before .before .if1 .taken,
+    )
 
 returns-2 : tie.Need-returns-2
 unfolding bareHeld
@@ -25,4 +34,4 @@ returns-2 c = rw (sym (c .before .in-range .ensures) ∙ c .if1 .left)
 
 pub bare-spec : {M : Type 1} → statement M
 bare-spec =
-    tie.close (tie.spec in-range-requires scaled-requires signed-requires returns returns-2)
+    tie.close (tie.spec in-range-requires power-of-ten-requires scaled-requires signed-requires returns returns-2)

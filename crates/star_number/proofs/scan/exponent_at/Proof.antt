@@ -6,7 +6,7 @@ use native.Mathlib.Omega.{arith}
 use borrow.Author.Tests.{not-true, not-false}
 use denote.Ref.{now}
 use lib.ListN.{length, drop}
-use Rattle.star_number.specs.Held.{isLetter}
+use Rattle.star_number.specs.Held.{letterNext}
 use Rattle.star_number.proofs.Held.{letter-inside, exponent-none, exponent-some, sign-length-le}
 use borrow.Author.Needs.{needs}
 use Rattle.star_number.proofs.scan.exponent_at.Statement.{statement}
@@ -19,7 +19,7 @@ returns : tie.Need-returns
 returns c = sym (exponent-none _ _ (sym (c .before .is-letter .ensures) ∙ not-true _ (c .if1 .taken)))
 
 -- after a letter
-letter : (c : tie.Else1) → isLetter (drop (c .before .before .before .args .at) (now (c .before .before .before .args .content))) ≡ true
+letter : (c : tie.Else1) → letterNext (drop (c .before .before .before .args .at) (now (c .before .before .before .args .content))) ≡ true
 letter c = sym (c .before .is-letter .ensures) ∙ not-false _ (c .if1 .left)
 
 within : (c : tie.Else1) → c .before .before .before .args .at < length (now (c .before .before .before .args .content))
