@@ -123,7 +123,7 @@ fn main() {
     match arguments[..] {
         ["--list"] => CASES.iter().for_each(|case| println!("{}", case.0)),
         ["--list", "numbers"] => numbers::CASES.iter().for_each(|case| println!("{}", case.0)),
-        ["--numbers"] => numbers::times(),
+        ["--numbers", ref names @ ..] => numbers::times(names),
         ["--once", name, "number_of"] => numbers::once(name),
         ["--once", name, call] => once(named(name), call),
         _ => {

@@ -1,4 +1,4 @@
-//! Numbers a second, beside C's `strtod` on the same texts.
+//! The time of a number, beside C's `strtod` on the same texts.
 
 use std::ffi::CStr;
 use std::hint::black_box;
@@ -158,13 +158,17 @@ fn time(case: Case) {
     );
 }
 
-/// Prints the table of all cases.
-pub fn times() {
+/// Prints the table of these cases, or of all where none is named.
+pub fn times(names: &[&str]) {
+    let chosen: Vec<Case> = match names.is_empty() {
+        true => CASES.to_vec(),
+        false => names.iter().map(|name| named(name)).collect(),
+    };
     println!(
         "{:<17} {:>9} {:>15} {:>17} {:>10}",
         "case", "texts", "ns/number", "strtod ns/number", "ratio"
     );
-    CASES.into_iter().for_each(time);
+    chosen.into_iter().for_each(time);
 }
 
 /// Makes one call for each text of a case; prints how many there are.
