@@ -23,6 +23,12 @@
  * for kinds 1, 2 and 8, what stands between the delimiters for kinds 9 to 11,
  * else the whole word.
  *
+ * LINE ENDS. 13 directly followed by 10 is one line end, and so is each other
+ * 10, 12 and 13. A ; at the start of a line or of the file opens a text field,
+ * and the first line end that is directly followed by ; closes it: that line
+ * end, both bytes of 13, 10, is not content. Any line end before it is, byte
+ * for byte.
+ *
  * REFUSALS. Every answer but star_part and star_number has a refusal; 0,
  * STAR_OK, means accepted or found. A place is an offset into the file unless
  * said otherwise.
@@ -198,9 +204,11 @@ enum star_number_form {
 #define STAR_VALUES_WORDS(n) (STAR_MOST_VALUES(n) * STAR_VALUES_WIDTH)
 
 /*
- * In the plain form each token has as many bytes as in the file and one byte 10
- * after it, n + 1 at most together. A word that begins with ; also has a blank
- * before it: at most one byte for each token.
+ * In the plain form each token has at most as many bytes as in the file and one
+ * byte 10 after it, n + 1 at most together, and at most one byte more: a word
+ * that begins with ; has a blank before it, and a text field whose content ends
+ * in 13 has 13, 10 before its closing ;, where the file may have one byte. No
+ * token is both.
  */
 #define STAR_PLAIN_BYTES(n) (STAR_READ_BYTES_(n) + 1 + STAR_MOST_TOKENS(n))
 
@@ -400,8 +408,10 @@ star_value_number_t star_value_number(const uint8_t *file, size_t file_len,
 
 /*
  * Reads a file and writes its plain form: its tokens in order in their own
- * kinds and delimiters, each followed by one byte 10, without comments. The
- * plain form of a plain form is itself.
+ * kinds and delimiters, each followed by one byte 10, without comments. A text
+ * field is closed by 10 and ; or, where its content ends in 13, by 13, 10 and
+ * ;, since that 13 would else belong to the line end. A word that begins with ;
+ * has a blank before it. The plain form of a plain form is itself.
  *
  * Refusals: those of star_read; then 1, place 0, if the plain form is over
  * 1,048,576 bytes; then 7, place 6, if the output is too short for it.

@@ -163,7 +163,9 @@ pub const fn star_values_words(n: usize) -> usize {
     star_most_values(n) * STAR_VALUES_WIDTH
 }
 
-/// STAR_PLAIN_BYTES: room for the plain form of any file of `n` bytes.
+/// STAR_PLAIN_BYTES: room for the plain form of any file of `n` bytes. Each token
+/// may have one byte more than in the file: a blank before a word that begins
+/// with `;`, or the 13 of 13, 10 after a content that ends in 13.
 pub const fn star_plain_bytes(n: usize) -> usize {
     read_bytes(n) + 1 + star_most_tokens(n)
 }

@@ -159,6 +159,7 @@ fn every_row_of_tokens() {
 fn every_file(file: &mut Vec<u8>, bytes: &[u8], more: usize, tally: &mut Tally) {
     let answer = check("every file", 0, file, |file| read(1, file, [0; 5]));
     check("every file", 0, file, |file| write(1, file, [0; 5], 0));
+    check("every file", 0, file, round_trip);
     tally[answer.refusal as usize] += 1;
     if more > 0 {
         for &byte in bytes {
@@ -178,6 +179,15 @@ fn every_short_file() {
     }
     for head in ["data_a _x \"", "data_a _x '", "data_a _x\n;"] {
         every_file(&mut head.into(), b"'\"; \t\n\x0b\x0c\r", 4, &mut tally);
+    }
+    // every row of line ends, `;` and a letter in a text field and after it
+    let line_ends = b"\n\x0c\r;a";
+    for head in ["data_a _x\n;", "data_a loop_ _x\r\n;"] {
+        every_file(&mut head.into(), line_ends, 8, &mut tally);
+    }
+    for letters in 1..20 {
+        let head = "data_a _x\n;".to_owned() + &"t".repeat(letters);
+        every_file(&mut head.into(), line_ends, 5, &mut tally);
     }
     // every byte in every place where one may matter
     for byte in 0..=255 {

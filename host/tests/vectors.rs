@@ -1,6 +1,7 @@
 //! The library on the vectors and on known files, through the wrappers.
 
 use std::collections::HashSet;
+use std::process::Command;
 
 use tackturnel::{raw, star, Counts, NumberForm, Reading, Tables, TablesMut, Written};
 use tackturnel_tests_support::notation::{escaped, number_vectors, vectors};
@@ -21,10 +22,20 @@ fn answers(file: &[u8]) -> (Reading, [Vec<u32>; 5], Written, Vec<u8>) {
 
 #[test]
 fn vectors_are_answered() {
-    let list = vectors(include_str!("../vectors/base.txt"));
-    assert_eq!(list.len(), 130);
+    answer_vectors("base.txt", include_str!("../vectors/base.txt"), 130);
+}
+
+#[test]
+fn line_end_vectors_are_answered() {
+    answer_vectors("102.txt", include_str!("../vectors/102.txt"), 30);
+}
+
+/// Answers the vectors of a list of so many.
+fn answer_vectors(name: &str, list: &str, count: usize) {
+    let list = vectors(list);
+    assert_eq!(list.len(), count, "{name}");
     for vector in list {
-        let shown = format!("line {}: {}", vector.line, escaped(&vector.file));
+        let shown = format!("{name}, line {}: {}", vector.line, escaped(&vector.file));
         let (reading, tables, written, mut out) = answers(&vector.file);
         let (refusal, place) = (vector.refusal, vector.place);
         assert_eq!((reading.refusal, reading.place), (refusal, place), "{shown}");
@@ -212,6 +223,76 @@ fn measurement_is_read() {
     assert!(tables.packets.chunks(3).any(|row| row[1] == 3));
 }
 
+/// The bytes with 13, 10 for each 10.
+fn windows_lines(bytes: &[u8]) -> Vec<u8> {
+    String::from_utf8_lossy(bytes).replace('\n', "\r\n").into_bytes()
+}
+
+/// The file with 13, 10 for each 10 in the contents of its text fields.
+fn windows_fields(file: &[u8], tokens: &[u32]) -> Vec<u8> {
+    let (mut lines, mut at) = (Vec::new(), 0);
+    for row in tokens.chunks(raw::STAR_TOKENS_WIDTH) {
+        if row[0] == raw::STAR_TOKEN_TEXT {
+            let (start, end) = (row[1] as usize, row[2] as usize);
+            lines.extend_from_slice(&file[at..start]);
+            lines.extend(windows_lines(&file[start..end]));
+            at = end;
+        }
+    }
+    lines.extend_from_slice(&file[at..]);
+    lines
+}
+
+/// The counts, the tables of 16,384 words and the plain form of an accepted file.
+fn written(file: &[u8]) -> (Counts, [Vec<u32>; 5], Vec<u8>) {
+    let mut tables: [Vec<u32>; 5] = std::array::from_fn(|_| vec![7; 16_384]);
+    let mut out = vec![7; star::plain_room(file.len())];
+    let written = star::write(file, TablesMut::of(&mut tables), &mut out);
+    assert_eq!(written.refusal, raw::STAR_OK, "place {}", written.place);
+    out.truncate(written.length as usize);
+    (written.counts(), tables, out)
+}
+
+/// The measurement as a Windows bench writes it: the same rows and values, but
+/// for 13, 10 in place of 10 within text fields.
+#[test]
+fn measurement_from_windows_is_read() {
+    let command = concat!(env!("CARGO_MANIFEST_DIR"), "/../examples/windows");
+    let printed = Command::new(command).output().expect("examples/windows runs");
+    assert!(printed.status.success(), "{}", printed.status);
+    let (file, windows) = (include_bytes!("../../examples/measurement.star"), printed.stdout);
+    assert_eq!(windows, windows_lines(file));
+    assert!(windows.len() <= 8192);
+
+    let (counts, tables, plain) = written(file);
+    let (windows_counts, windows_tables, windows_plain) = written(&windows);
+    assert_eq!(windows_counts, counts);
+    assert_eq!(windows_tables[1..], tables[1..]);
+    let (_, plain_tables, _) = written(&plain);
+    let expected = windows_fields(&plain, &plain_tables[0]);
+    assert_eq!(escaped(&windows_plain), escaped(&expected));
+
+    let (tables, windows_tables) = (Tables::of(&tables), Tables::of(&windows_tables));
+    let mut changed = 0;
+    for row in 1..=counts.names {
+        for k in 1.. {
+            let value = star::value_at(file, tables, counts, row, k);
+            assert_eq!(star::value_at(&windows, windows_tables, counts, row, k), value);
+            if value.refusal != 0 {
+                break;
+            }
+            let part = star::value_part(file, tables, counts, row, k);
+            let windows_part = star::value_part(&windows, windows_tables, counts, row, k);
+            changed += usize::from(windows_part != part);
+            match value.kind {
+                raw::STAR_TOKEN_TEXT => assert_eq!(windows_part, windows_lines(part)),
+                _ => assert_eq!(windows_part, part),
+            }
+        }
+    }
+    assert_eq!(changed, 1);
+}
+
 /// The answer with the room that the file's length asks for, one table having
 /// this many words less.
 fn read_by_length(file: &str, table: usize, less: usize) -> Reading {
@@ -270,11 +351,34 @@ fn room_by_length_is_nearly_needed() {
     }
     for words in [1, 2, 93, 1000] {
         let file = format!("data_a loop_ _x{}", " ;".repeat(words));
-        let mut tables = star::room(file.len()).map(|words| vec![7; words]);
-        let mut out = vec![7; star::plain_room(file.len())];
-        let written = star::write(file.as_bytes(), TablesMut::of(&mut tables), &mut out);
+        let room = star::plain_room(file.len());
+        let written = write_into(&file, room);
         assert_eq!(written.refusal, raw::STAR_OK);
-        assert_eq!(out.len() - written.length as usize, 8);
+        assert_eq!(room - written.length as usize, 8);
+    }
+}
+
+/// The answer with tables by the file's length and an output of so many bytes.
+fn write_into(file: &str, bytes: usize) -> Written {
+    let mut tables = star::room(file.len()).map(|words| vec![7; words]);
+    star::write(file.as_bytes(), TablesMut::of(&mut tables), &mut vec![7; bytes])
+}
+
+/// Tokens that each need a byte of the output beyond the file's length and the
+/// last byte 10: a word that begins with `;`, and a text field whose content
+/// ends in 13 and that is closed by one byte.
+#[test]
+fn room_for_each_token_is_needed() {
+    for token in [" ;", "\n;\r\x0c;", "\n;\r\r;", "\n;t\r\x0c;"] {
+        for count in [1, 2, 93, 1000] {
+            let file = format!("data_a loop_ _x{}", token.repeat(count));
+            let needed = file.len() + 1 + count;
+            assert!(needed <= star::plain_room(file.len()));
+            let written = write_into(&file, needed);
+            assert_eq!((written.refusal, written.length), (raw::STAR_OK, needed as u32));
+            let written = write_into(&file, needed - 1);
+            assert_eq!((written.refusal, written.place), (raw::STAR_TOO_SHORT, 6));
+        }
     }
 }
 

@@ -1,9 +1,12 @@
 -- The demands hold: each sentence is proved by the crate that states it.
+use mathlib.Core.Path.{refl}
+use Rattle.star_lex.proofs.NoPair.{no-pair-as-before}
 use Rattle.star_read.proofs.Usable.{today-usable}
 use Rattle.star_read.proofs.Demand1.{read-answers}
 use Rattle.star_read.proofs.Demand3.{accepted-exactly, one-reading, rows-of-reading, place-of-refusal}
 use Rattle.star_read.proofs.RefusalNumber.{refusal-number, numbers-exclude}
 use Rattle.star_read.proofs.Settled.{reading-settled, one-outcome}
+use Rattle.star_read.proofs.Windows.{windows-reads}
 use Rattle.star_find.proofs.Demand1.{lookups-answer, values-answer, span-part}
 use Rattle.star_find.proofs.Lookup.{lookup-by-name, lookup-block, lookup-frame, values-in-order}
 use Rattle.star_number.proofs.Exactly.{number-exact, number-pieces}
@@ -13,7 +16,7 @@ use Rattle.star_number.proofs.Known.{numbers-known}
 use Rattle.star_number.proofs.InOrder.{numbers-in-order, numbers-answer}
 use Rattle.star_write.proofs.Demand1.{write-answers}
 use Rattle.star_write.proofs.RoundTrip.{round-trip, writes-again}
-use Rattle.star.specs.Demands.{Demand1, Demand2, Demand3, Numbers}
+use Rattle.star.specs.Demands.{Demand1, Demand2, Demand3, Numbers, LineEnds}
 
 pub demand-1 : Demand1
 demand-1 = (read-answers, lookups-answer, values-answer, numbers-answer, write-answers)
@@ -37,3 +40,6 @@ demand-3 = (
 
 pub numbers : Numbers
 numbers = (number-exact, number-pieces, whole-exact, power-exact, rounded-once, floats-finite, numbers-known, numbers-in-order)
+
+pub line-ends : LineEnds
+line-ends = (refl, no-pair-as-before, windows-reads)

@@ -1,7 +1,10 @@
 -- The demands on the library, whole: each is the product of its sentences, which the crates below state. Believed; proofs/Demands.antt proves them. What is said of reading for all usable
 -- rules is said of the library since today's are usable.
+use mathlib.Core.Path.{_≡_}
+use mathlib.Core.Bool.{true}
 use Rattle.star_lex.specs.Rules.{today}
-use Rattle.star_read.specs.Demands.{Usable, AcceptedExactly, OneReading, RowsOfReading, PlaceOfRefusal, RefusalNumber, NumbersExclude, ReadingSettled, OneOutcome, ReadAnswers}
+use Rattle.star_lex.specs.Demands.{NoPairAsBefore}
+use Rattle.star_read.specs.Demands.{Usable, AcceptedExactly, OneReading, RowsOfReading, PlaceOfRefusal, RefusalNumber, NumbersExclude, ReadingSettled, OneOutcome, ReadAnswers, WindowsReads}
 use Rattle.star_find.specs.Demands.{LookupByName, LookupBlock, LookupFrame, ValuesInOrder, SpanPart, LookupsAnswer, ValuesAnswer}
 use Rattle.star_number.specs.Demands.{NumberExact, NumberPieces, WholeExact, PowerExact, RoundedOnce, FloatsFinite, NumbersKnown, NumbersInOrder, NumbersAnswer}
 use Rattle.star_write.specs.Demands.{RoundTrip, WritesAgain, WriteAnswers}
@@ -26,3 +29,8 @@ Demand3 = Usable today × AcceptedExactly × OneReading × RowsOfReading × Plac
 -- that a number in range is rounded once, and none is infinite; and after reading the numbers of a name are those of its values in file order
 abbrev pub Numbers : Type 0
 Numbers = NumberExact × NumberPieces × WholeExact × PowerExact × RoundedOnce × FloatsFinite × NumbersKnown × NumbersInOrder
+
+-- specification 2.2: a file in which no 13 is directly followed by 10 splits as it did when each of 10, 12 and 13 was one line end by itself; and as Windows writes it,
+-- 13, 10 for each 10, it is read with the same rows and the same values but for the line ends within text fields
+abbrev pub LineEnds : Type 0
+LineEnds = (today .pairs ≡ true) × NoPairAsBefore × WindowsReads

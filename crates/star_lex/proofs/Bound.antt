@@ -15,44 +15,44 @@ use Rattle.star_lex.specs.Split.{Lexeme, gap, token, faulty, after, eith
 use Rattle.star_lex.proofs.Cases.{impossible, cond-cases}
 use Rattle.star_lex.proofs.Steps.{Steps, ends, within, passes, takes, accepted-steps}
 
--- a word's token has as many bytes after its first as the word
-abbrev More : ℕ → Lexeme → Type 0
-More m (gap n) = Unit {0}
-More m (token n t) = n ≡ m
+-- a word's token has as many bytes after its first as the word, and is no text field
+abbrev pub More : ℕ → Lexeme → Type 0
+More m (gap n) = ⊥
+More m (token n t) = (n ≡ m) × (eqb (t .kind) 11 ≡ false)
 More m (faulty n) = Unit {0}
 
-limited-more : (rules : Rules) (more kind : ℕ) (content : List ℕ) → More more (limited rules more kind content)
+limited-more : (rules : Rules) (more kind : ℕ) (content : List ℕ) → eqb kind 11 ≡ false → More more (limited rules more kind content)
 unfolding limited
-limited-more rules more kind content = by (leb (length content) (rules .longest))
+limited-more rules more kind content k = by (leb (length content) (rules .longest))
   where
     by : (b : Bool) → More more (cond b (token more (record { kind = kind; content = content })) (faulty 4))
-    by true = refl
+    by true = (refl, k)
     by false = tt
 
 block-more : (rules : Rules) (more : ℕ) (bs : List ℕ) → More more (blockWord rules more bs)
 unfolding blockWord
 block-more rules more [] = tt
-block-more rules more (b ∷ bs) = limited-more rules more 1 (b ∷ bs)
+block-more rules more (b ∷ bs) = limited-more rules more 1 (b ∷ bs) refl
 
 frame-more : (rules : Rules) (more : ℕ) (bs : List ℕ) → More more (frameWord rules more bs)
 unfolding frameWord
-frame-more rules more [] = refl
-frame-more rules more (b ∷ bs) = limited-more rules more 2 (b ∷ bs)
+frame-more rules more [] = (refl, refl)
+frame-more rules more (b ∷ bs) = limited-more rules more 2 (b ∷ bs) refl
 
-alone-more : (more kind : ℕ) (w bs : List ℕ) → More more (alone more kind w bs)
+alone-more : (more kind : ℕ) → eqb kind 11 ≡ false → (w bs : List ℕ) → More more (alone more kind w bs)
 unfolding alone
-alone-more more kind w [] = refl
-alone-more more kind w (b ∷ bs) = tt
+alone-more more kind k w [] = (refl, k)
+alone-more more kind k w (b ∷ bs) = tt
 
 name-more : (rules : Rules) (more : ℕ) (bs : List ℕ) → More more (nameWord rules more bs)
 unfolding nameWord
 name-more rules more [] = tt
-name-more rules more (b ∷ bs) = limited-more rules more 6 (95 ∷ b ∷ bs)
+name-more rules more (b ∷ bs) = limited-more rules more 6 (95 ∷ b ∷ bs) refl
 
 reference-more : (more : ℕ) (bs : List ℕ) → More more (referenceWord more bs)
 unfolding referenceWord
-reference-more more [] = refl
-reference-more more (b ∷ bs) = refl
+reference-more more [] = (refl, refl)
+reference-more more (b ∷ bs) = (refl, refl)
 
 either-more : (m : ℕ) (o : Option (List ℕ)) (f : List ℕ → Lexeme) (other : Lexeme) → ((bs : List ℕ) → More m (f bs)) → More m other
     → More m (either o f other)
@@ -60,19 +60,19 @@ unfolding either
 either-more m none f other p q = q
 either-more m (some bs) f other p q = p bs
 
-word-more : (rules : Rules) (more : ℕ) (w : List ℕ) → More more (wordLexeme rules more w)
+pub word-more : (rules : Rules) (more : ℕ) (w : List ℕ) → More more (wordLexeme rules more w)
 unfolding wordLexeme
 word-more rules more w =
     either-more more (after dataWord w) _ _ (block-more rules more)
     (either-more more (after saveWord w) _ _ (frame-more rules more)
-    (either-more more (after loopWord w) _ _ (alone-more more 4 loopWord)
-    (either-more more (after stopWord w) _ _ (alone-more more 5 stopWord)
-    (either-more more (after globalWord w) _ _ (alone-more more 12 globalWord)
+    (either-more more (after loopWord w) _ _ (alone-more more 4 refl loopWord)
+    (either-more more (after stopWord w) _ _ (alone-more more 5 refl stopWord)
+    (either-more more (after globalWord w) _ _ (alone-more more 12 refl globalWord)
     (either-more more (after (95 ∷ []) w) _ _ (name-more rules more)
-    (either-more more (after (36 ∷ []) w) _ _ (reference-more more) refl))))))
+    (either-more more (after (36 ∷ []) w) _ _ (reference-more more) (refl, refl)))))))
 
 more-token : {m n : ℕ} {t : Token} {l : Lexeme} → More m l → l ≡ token n t → n ≡ m
-more-token {m} {n} {t} {l} p e = rw e at p
+more-token {m} {n} {t} {l} p e = (rw e at p) .0
 
 -- white space or the end follows what a lexeme takes
 word-white : (bs : List ℕ) → whiteNext (drop (length (leading (λ c. not (isWhite c)) bs)) bs) ≡ true
@@ -96,12 +96,13 @@ quoted-white q (b ∷ bs) c e =
     inside h none d g = impossible cc
     inside h (some x) d g = let z : b ∷ x ≡ c = cc in rw (← z) (h x d)
 
-field-white : (o : Option (List ℕ)) (bs : List ℕ) (more : ℕ) (t : Token) → fieldLexeme o bs ≡ token more t → whiteNext (drop more bs) ≡ true
+field-white : (rules : Rules) (o : Option (List ℕ)) (bs : List ℕ) (more : ℕ) (t : Token) → fieldLexeme rules o bs ≡ token more t
+    → whiteNext (drop more bs) ≡ true
 unfolding fieldLexeme
-field-white none bs more t e = impossible cc
-field-white (some c) bs more t e =
-    cond-cases (whiteNext (drop (length c + closeLength (drop (length c) bs)) bs)) _ _ (token more t) e
-    (λ k h. let z : length c + closeLength (drop (length c) bs) ≡ more = cc in rw (← z) k) (λ k h. impossible cc)
+field-white rules none bs more t e = impossible cc
+field-white rules (some c) bs more t e =
+    cond-cases (whiteNext (drop (length c + closeLength rules (drop (length c) bs)) bs)) _ _ (token more t) e
+    (λ k h. let z : length c + closeLength rules (drop (length c) bs) ≡ more = cc in rw (← z) k) (λ k h. impossible cc)
 
 string-white : (kind q : ℕ) (bs : List ℕ) (more : ℕ) (t : Token) → quotedLexeme kind (quoted q bs) ≡ token more t → whiteNext (drop more bs) ≡ true
 unfolding quotedLexeme
@@ -125,7 +126,7 @@ lexeme-white rules line b bs more t e =
     cond-cases (isWhite b) _ _ (token more t) e (λ k h. impossible cc)
     (λ w h₁. (
       cond-cases (eqb b 35) _ _ (token more t) h₁ (λ k h. impossible cc)
-          (λ k h₂. cond-cases (line && eqb b 59) _ _ (token more t) h₂ (λ l h. field-white (field bs) bs more t h)
+          (λ k h₂. cond-cases (line && eqb b 59) _ _ (token more t) h₂ (λ l h. field-white rules (field rules bs) bs more t h)
           (λ l h₃. cond-cases (eqb b 39) _ _ (token more t) h₃ (λ m h. string-white 9 39 bs more t h)
           (λ m h₄. cond-cases (eqb b 34) _ _ (token more t) h₄ (λ n h. string-white 10 34 bs more t h) (λ n h. from-white rules b bs more t h)))),
       w,

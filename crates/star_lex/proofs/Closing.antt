@@ -1,24 +1,26 @@
 -- Where strings and text fields close, seen from a place of the file: what one byte decides.
-use mathlib.Core.Path.{_≡_, refl, sym, _∙_}
-use mathlib.Core.Bool.{Bool, true, false, cond, _&&_}
+use mathlib.Core.Path.{_≡_, refl, sym, _∙_, ap}
+use mathlib.Core.Bool.{Bool, true, false, cond, _&&_, and-false}
 use mathlib.Core.List.{List, [], _∷_}
 use mathlib.Core.Option.{Option, none, some, Option·map}
 use Prim.Native.Nat.{ℕ, suc, _+_, _≤_, _<_}
 use native.Mathlib.Nat.{add-zero, add-suc, suc-add}
 use native.Mathlib.Numerals.{add-one}
 use native.Mathlib.Omega.{arith}
-use borrow.Author.Tests.{not-true, not-false}
+use borrow.Author.Tests.{not-true, not-false, eqb-true}
 use lib.Dec.{eqb}
 use lib.ListN.{length, getD, drop, drop-of-length-le}
-use lib.Seq.{drop-cons}
+use lib.Seq.{drop-cons, drop-drop}
 use Rattle.star_text.specs.Bytes.{isTerminate, isWhite, leading}
 use Rattle.star_text.specs.Classes.{Classes, belowIn}
+use Rattle.star_text.proofs.Cases.{both}
 use Rattle.star_text.proofs.Classes.{below-terminate}
 use Rattle.star_text.proofs.Run.{run-keeps, run-fails}
-use Rattle.star_lex.specs.Split.{quoted, field, starts, whiteNext}
+use Rattle.star_lex.specs.Rules.{Rules, today}
+use Rattle.star_lex.specs.Split.{quoted, lineEnd, closes, field, starts, whiteNext}
 use Rattle.star_lex.specs.Answer.{endOf}
 use Rattle.star_lex.specs.LineEnd.{LineEnd}
-use Rattle.star_lex.proofs.Delimited.{closes-cons}
+use Rattle.star_lex.proofs.LineEnds.{starts-inside, line-end-one, line-end-two, line-end-some, closes-not}
 
 module _ (file : List ℕ) (at : ℕ) where
   pub white-in : at < length file → whiteNext (drop at file) ≡ isWhite (getD file at 0)
@@ -66,16 +68,21 @@ module _ (size : ℕ) (file : List ℕ) (at : ℕ) where
   unfolding quoted endOf
   quote-over q h = rw (drop-of-length-le file h)
 
-  pub field-at : at < length file
-      → endOf size at (field (drop at file))
-      ≡ cond (isTerminate (getD file at 0) && starts 59 (drop (at + 1) file)) at (endOf size (at + 1) (field (drop (at + 1) file)))
+  pub field-at : (rules : Rules) → at < length file
+      → endOf size at (field rules (drop at file)) ≡ cond (closes rules (drop at file)) at (endOf size (at + 1) (field rules (drop (at + 1) file)))
   unfolding field
-  field-at h =
-      rw (drop-cons file at 0 h, closes-cons (getD file at 0) (drop (suc at) file), end-here, end-cons size at (getD file at 0) (field (drop (suc at) file)), add-one)
+  field-at rules h =
+      rw (drop-cons file at 0 h, end-here, end-cons size at (getD file at 0) (field rules (drop (suc at) file)), add-one)
 
-  pub field-over : length file ≤ at → endOf size at (field (drop at file)) ≡ size
+  pub field-over : (rules : Rules) → length file ≤ at → endOf size at (field rules (drop at file)) ≡ size
   unfolding field endOf
-  field-over h = rw (drop-of-length-le file h)
+  field-over rules h = rw (drop-of-length-le file h)
+
+-- a byte that ends no line closes no field
+pub field-inside : (size : ℕ) (file : List ℕ) (at : ℕ) (rules : Rules) → at < length file → isTerminate (getD file at 0) ≡ false
+    → endOf size at (field rules (drop at file)) ≡ endOf size (at + 1) (field rules (drop (at + 1) file))
+field-inside size file at rules h e =
+    field-at size file at rules h ∙ rw (drop-cons file at 0 h, closes-not rules (getD file at 0) (drop (suc at) file) e)
 
 -- the next line end from a place on, by the run of bytes that end no line
 pub line-end : {table : List ℕ} → Classes table → (file : List ℕ) (from : ℕ) → ((i : ℕ) → getD file i 0 < 256)
@@ -83,7 +90,7 @@ pub line-end : {table : List ℕ} → Classes table → (file : List ℕ) (from 
 line-end {table} c file from bytes = record {
   further = omega arith;
   ends = λ h. not-false _ (sym (below-terminate c (getD file (from + size) 0) (bytes (from + size))) ∙ run-fails below file size from refl h);
-  closes = sym (run-keeps below file (λ m. endOf (length file) m (field (drop m file))) over size from refl);
+  closes = sym (run-keeps below file (λ m. endOf (length file) m (field today (drop m file))) over size from refl);
 }
   where
     below : ℕ → Bool
@@ -93,7 +100,63 @@ line-end {table} c file from bytes = record {
     size = length (leading below (drop from file))
 
     over : (m : ℕ) → m < length file → below (getD file m 0) ≡ true
-        → endOf (length file) m (field (drop m file)) ≡ endOf (length file) (m + 1) (field (drop (m + 1) file))
+        → endOf (length file) m (field today (drop m file)) ≡ endOf (length file) (m + 1) (field today (drop (m + 1) file))
     over m h e =
-        let plain : isTerminate (getD file m 0) ≡ false = not-true (isTerminate (getD file m 0)) (sym (below-terminate c (getD file m 0) (bytes m)) ∙ e) in
-        field-at (length file) file m h ∙ rw plain
+        field-inside (length file) file m today h
+        (not-true (isTerminate (getD file m 0)) (sym (below-terminate c (getD file m 0) (bytes m)) ∙ e))
+
+-- the line end at a place, as its two bytes tell it
+module _ (rules : Rules) (file : List ℕ) (at : ℕ) (inside : at < length file) (ends : isTerminate (getD file at 0) ≡ true) where
+  pub line-end-pair : (rules .pairs && (eqb (getD file at 0) 13 && starts 10 (drop (at + 1) file))) ≡ true → lineEnd rules (drop at file) ≡ 2
+  line-end-pair e = rw (drop-cons file at 0 inside, ← add-one at) (line-end-two rules (getD file at 0) (drop (at + 1) file) e)
+
+  pub line-end-lone : (rules .pairs && (eqb (getD file at 0) 13 && starts 10 (drop (at + 1) file))) ≡ false → lineEnd rules (drop at file) ≡ 1
+  line-end-lone e = rw (drop-cons file at 0 inside, ← add-one at) (line-end-one rules (getD file at 0) (drop (at + 1) file) ends e)
+
+  pub line-end-takes : 1 ≤ lineEnd rules (drop at file)
+  line-end-takes = rw (drop-cons file at 0 inside) (line-end-some rules (getD file at 0) (drop (suc at) file) ends)
+
+closes-after : (rules : Rules) (file : List ℕ) (at : ℕ) → lineEnd rules (drop at file) ≡ 1 → closes rules (drop at file) ≡ starts 59 (drop (at + 1) file)
+unfolding closes
+closes-after rules file at e = rw (e, drop-drop)
+
+closes-after-pair : (rules : Rules) (file : List ℕ) (at : ℕ) → lineEnd rules (drop at file) ≡ 2 → closes rules (drop at file) ≡ starts 59 (drop (at + 2) file)
+unfolding closes
+closes-after-pair rules file at e = rw (e, drop-drop)
+
+-- from a line end on, a field closes there or is sought after it
+abbrev Sought : (rules : Rules) (file : List ℕ) (size at next : ℕ) → Type 0
+Sought rules file size at next =
+    endOf size at (field rules (drop at file)) ≡ cond (starts 59 (drop next file)) at (endOf size next (field rules (drop next file)))
+
+sought-lone : (rules : Rules) (file : List ℕ) (size at : ℕ) → at < length file → lineEnd rules (drop at file) ≡ 1 → Sought rules file size at (at + 1)
+sought-lone rules file size at h e = field-at size file at rules h ∙ rw (closes-after rules file at e)
+
+-- the 10 of a pair closes only what the pair closes
+sought-pair : (rules : Rules) (file : List ℕ) (size at : ℕ) → at < length file → starts 10 (drop (at + 1) file) ≡ true → lineEnd rules (drop at file) ≡ 2
+    → Sought rules file size at (at + 2)
+unfolding isTerminate
+sought-pair rules file size at h t e =
+    let i : at + 1 < length file = starts-inside 10 (at + 1) file t in
+    let b : getD file (at + 1) 0 ≡ 10 = eqb-true (getD file (at + 1) 0) 10 (sym (starts-in file (at + 1) 10 i) ∙ t) in
+    let l : lineEnd rules (drop (at + 1) file) ≡ 1 = line-end-lone rules file (at + 1) i (ap isTerminate b) (rw b (and-false (rules .pairs))) in
+    let f : at + 1 + 1 ≡ at + 2 = omega arith in
+    field-at size file at rules h
+    ∙ rw (closes-after-pair rules file at e, sought-lone rules file size (at + 1) i l, f)
+    (go (starts 59 (drop (at + 2) file)))
+  where
+    go : (s : Bool) → cond s at (cond s (at + 1) (endOf size (at + 2) (field rules (drop (at + 2) file)))) ≡ cond s at (endOf size (at + 2) (field rules (drop (at + 2) file)))
+    go true = refl
+    go false = refl
+
+pub field-line : (rules : Rules) (file : List ℕ) (size at : ℕ) → at < length file → isTerminate (getD file at 0) ≡ true
+    → Sought rules file size at (at + lineEnd rules (drop at file))
+field-line rules file size at h e = go (rules .pairs && (eqb (getD file at 0) 13 && starts 10 (drop (at + 1) file))) refl
+  where
+    go : (p : Bool) → (rules .pairs && (eqb (getD file at 0) 13 && starts 10 (drop (at + 1) file))) ≡ p → Sought rules file size at (at + lineEnd rules (drop at file))
+    go true q =
+        let l : lineEnd rules (drop at file) ≡ 2 = line-end-pair rules file at h e q in
+        rw l (sought-pair rules file size at h (both (eqb (getD file at 0) 13) _ (both (rules .pairs) _ q .1) .1) l)
+    go false q =
+        let l : lineEnd rules (drop at file) ≡ 1 = line-end-lone rules file at h e q in
+        rw l (sought-lone rules file size at h l)

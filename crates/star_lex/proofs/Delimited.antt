@@ -1,17 +1,18 @@
 -- Contents between delimiters: `quoted` and `field` stop at the first closing delimiter, so they find a content that holds none, and what
 -- they find holds none. By induction on the bytes.
 use mathlib.Core.Path.{_≡_, refl, sym, _∙_, ap}
-use mathlib.Core.Bool.{Bool, true, false, cond, not, _&&_, and-eq-true-iff, true≢false}
+use mathlib.Core.Bool.{true, false, not, _&&_, and-eq-true-iff, not-eq-not, true≢false}
 use mathlib.Core.List.{List, [], _∷_, _++_}
 use mathlib.Core.Option.{some, map-eq-some-iff}
-use Prim.Native.Nat.{ℕ, _+_}
-use borrow.Author.Tests.{not-true, eqb-true, eq-eqb, ne-eqb}
-use lib.Dec.{eqb, leb}
-use lib.ListN.{length, drop}
-use lib.Seq.{drop-append-seam}
+use Prim.Native.Nat.{ℕ}
+use borrow.Author.Tests.{not-true, eqb-true, eq-eqb}
+use lib.Dec.{eqb}
 use Rattle.star_text.specs.Bytes.{isBlank, isTerminate, isWhite}
-use Rattle.star_lex.specs.Split.{token, faulty, starts, whiteNext, quoted, lineEnd, closes, closeLength, field, fieldLexeme}
+use Rattle.star_lex.specs.Rules.{Rules}
+use Rattle.star_lex.specs.Split.{starts, whiteNext, quoted, lineEnd, closes, field}
+use Rattle.star_lex.specs.Plain.{ends}
 use Rattle.star_lex.proofs.Formed.{quotable, fieldable, startsWhite}
+use Rattle.star_lex.proofs.LineEnds.{terminate-not-semicolon, closes-first, closes-more, closes-last, closes-before}
 use Rattle.star_lex.proofs.Cases.{impossible, cond-cases}
 
 -- of a list before a byte that is not white space, the first byte decides
@@ -28,34 +29,20 @@ quoted-append q (b ∷ c) rest w e =
     let (v, l) = (and-eq-true-iff (not (eqb b q && startsWhite c)) (quotable q c)) .0 k in
     rw (whiteNext-append c q (10 ∷ rest) w, not-true (eqb b q && startsWhite c) v, not-true (isTerminate b) u, quoted-append q c rest w l)
 
-terminate-not-semicolon : (z : ℕ) → isTerminate z ≡ true → eqb z 59 ≡ false
-unfolding isTerminate
-terminate-not-semicolon z e = ne-eqb z 59 (λ q. true≢false (sym e ∙ ap isTerminate q))
-
-starts-append : (c : List ℕ) (z : ℕ) (rest : List ℕ) → eqb z 59 ≡ false → starts 59 (c ++ z ∷ rest) ≡ starts 59 c
-unfolding starts
-starts-append [] z rest e = e
-starts-append (b ∷ c) z rest e = refl
-
--- a byte closes a field where it ends a line and `;` follows
-pub closes-cons : (b : ℕ) (bs : List ℕ) → closes (b ∷ bs) ≡ (isTerminate b && starts 59 bs)
-unfolding closes lineEnd
-closes-cons b bs = go (isTerminate b)
-  where
-    go : (t : Bool) → (leb 1 (cond t 1 0) && starts 59 (drop (cond t 1 0) (b ∷ bs))) ≡ (t && starts 59 bs)
-    go true = refl
-    go false = refl
-
-pub field-append : (c : List ℕ) (z : ℕ) (rest : List ℕ) → isTerminate z ≡ true → fieldable c ≡ true → field (c ++ z ∷ 59 ∷ rest) ≡ some c
-unfolding field fieldable starts
-field-append [] z rest u e = rw (closes-cons z (59 ∷ rest), u)
-field-append (b ∷ c) z rest u e =
-    let (k, l) = (and-eq-true-iff (not (closes (b ∷ c))) (fieldable c)) .0 e in
+-- a field's content before what closes it; `rest` makes no pair with the content's last byte
+pub field-append : (rules : Rules) (c rest : List ℕ) → closes rules rest ≡ true → (rules .pairs && (ends 13 c && starts 10 rest)) ≡ false
+    → fieldable rules c ≡ true → field rules (c ++ rest) ≡ some c
+unfolding field fieldable starts ends closes lineEnd
+field-append rules c [] u n e = absurd (true≢false (sym u))
+field-append rules [] (z ∷ rest) u n e = rw u
+field-append rules (b ∷ []) (z ∷ rest) u n e =
+    rw (closes-last rules b (z ∷ rest) (terminate-not-semicolon z (closes-first rules z rest u)) n) (rw u)
+field-append rules (b ∷ d ∷ c) (z ∷ rest) u n e =
+    let (k, l) = (and-eq-true-iff (not (closes rules (b ∷ d ∷ c))) (fieldable rules (d ∷ c))) .0 e in
     rw (
-      closes-cons b (c ++ z ∷ 59 ∷ rest),
-      starts-append c z (59 ∷ rest) (terminate-not-semicolon z u),
-      sym (closes-cons b c) ∙ not-true (closes (b ∷ c)) k,
-      field-append c z rest u l,
+      closes-before rules b d c (z ∷ rest) (terminate-not-semicolon z (closes-first rules z rest u)),
+      not-true (closes rules (b ∷ d ∷ c)) k,
+      field-append rules (d ∷ c) (z ∷ rest) u n l,
     )
 
 pub quoted-some : (q : ℕ) (bs c : List ℕ) → isWhite q ≡ false → quoted q bs ≡ some c
@@ -77,36 +64,18 @@ quoted-some q (b ∷ bs) c w e =
     let m : (eqb b q && startsWhite d) ≡ false = rw (s, whiteNext-append d q rest w) at k in
     rw (← n) (rest, ap (λ r. b ∷ r) s, rw (u, m, l))))
 
-starts-true : (a : ℕ) (bs : List ℕ) → starts a bs ≡ true → (rest : List ℕ) × (bs ≡ a ∷ rest)
-unfolding starts
-starts-true a [] e = absurd (true≢false (sym e))
-starts-true a (b ∷ bs) e = (bs, rw (eqb-true b a e))
-
-pub field-some : (bs c : List ℕ) → field bs ≡ some c
-    → (z : ℕ) × (rest : List ℕ) × (bs ≡ c ++ z ∷ 59 ∷ rest) × (isTerminate z ≡ true) × (fieldable c ≡ true)
+-- what a field's content is: it stands before what closes the field, and the field closes nowhere in it
+pub field-some : (rules : Rules) (bs c : List ℕ) → field rules bs ≡ some c
+    → (rest : List ℕ) × (bs ≡ c ++ rest) × (closes rules rest ≡ true) × (fieldable rules c ≡ true)
 unfolding field fieldable
-field-some [] c e = impossible cc
-field-some (b ∷ bs) c e =
-    cond-cases (closes (b ∷ bs)) _ _ _ e
+field-some rules [] c e = impossible cc
+field-some rules (b ∷ bs) c e =
+    cond-cases (closes rules (b ∷ bs)) _ _ _ e
     (λ k h.
-    let (u, v) = (and-eq-true-iff (isTerminate b) (starts 59 bs)) .0 (sym (closes-cons b bs) ∙ k) in
-    let (rest, s) = starts-true 59 bs v in
     let n : c ≡ [] = cc in
-    rw n (b, rest, ap (λ r. b ∷ r) s, u, refl))
+    rw n (b ∷ bs, refl, k, refl))
     (λ k h.
-    let (d, f, n) = (map-eq-some-iff (λ (l : List ℕ). b ∷ l) (field bs)) .0 h in
-    let (z, rest, s, u, l) = field-some bs d f in
-    let m : (isTerminate b && starts 59 d) ≡ false = rw (s, starts-append d z (59 ∷ rest) (terminate-not-semicolon z u)) at (sym (closes-cons b bs) ∙ k) in
-    rw (← n) (z, rest, ap (λ r. b ∷ r) s, u, rw (closes-cons b d, m, l)))
-
--- two bytes close a field
-pub field-close : (bs c : List ℕ) → field bs ≡ some c → closeLength (drop (length c) bs) ≡ 2
-unfolding closeLength lineEnd
-field-close bs c e =
-    let (z, rest, s, u, l) = field-some bs c e in
-    rw (s, drop-append-seam c (z ∷ 59 ∷ rest), u)
-
-pub fieldLexeme-some : (bs c : List ℕ) → field bs ≡ some c
-    → fieldLexeme (some c) bs ≡ cond (whiteNext (drop (length c + 2) bs)) (token (length c + 2) (record { kind = 11; content = c })) (faulty 6)
-unfolding fieldLexeme
-fieldLexeme-some bs c e = rw (field-close bs c e)
+    let (d, f, n) = (map-eq-some-iff (λ (l : List ℕ). b ∷ l) (field rules bs)) .0 h in
+    let (rest, s, u, l) = field-some rules bs d f in
+    let m : closes rules (b ∷ d) ≡ false = not-eq-not .0 (λ t. true≢false (sym (closes-more rules (b ∷ d) rest t) ∙ ap (λ r. closes rules (b ∷ r)) (sym s) ∙ k)) in
+    rw (← n) (rest, ap (λ r. b ∷ r) s, u, rw (m, l)))

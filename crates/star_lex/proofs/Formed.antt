@@ -1,5 +1,5 @@
 -- Which contents a kind of token may have.
-use mathlib.Core.Path.{_≡_}
+use mathlib.Core.Path.{_≡_, refl}
 use mathlib.Core.Bool.{Bool, true, false, not, _&&_}
 use mathlib.Core.List.{List, [], _∷_}
 use mathlib.Core.Option.{none}
@@ -9,7 +9,7 @@ use lib.ListN.{length}
 use Rattle.star_text.specs.Bytes.{isTerminate, isWhite, isPrintable, isAllowed, all}
 use Rattle.star_lex.specs.Rules.{Rules, today}
 use Rattle.star_lex.specs.Tokens.{Token, dataWord, saveWord, loopWord, stopWord, globalWord}
-use Rattle.star_lex.specs.Split.{after, closes}
+use Rattle.star_lex.specs.Split.{after, lineEnd, closes}
 
 -- the first byte is white space
 unfoldable pub startsWhite : List ℕ → Bool
@@ -22,9 +22,15 @@ quotable q [] = true
 quotable q (b ∷ bs) = not (isTerminate b) && (not (eqb b q && startsWhite bs) && quotable q bs)
 
 -- no text field closes within
-unfoldable pub fieldable : List ℕ → Bool
-fieldable [] = true
-fieldable (b ∷ bs) = not (closes (b ∷ bs)) && fieldable bs
+unfoldable pub fieldable : (rules : Rules) → List ℕ → Bool
+fieldable rules [] = true
+fieldable rules (b ∷ bs) = not (closes rules (b ∷ bs)) && fieldable rules bs
+
+-- it is the line ends' rule that decides
+pub fieldable-same : (rules others : Rules) → rules .pairs ≡ others .pairs → (c : List ℕ) → fieldable rules c ≡ fieldable others c
+unfolding fieldable closes lineEnd
+fieldable-same rules others e [] = refl
+fieldable-same rules others e (b ∷ bs) = rw (fieldable-same rules others e bs, e)
 
 -- a word that no other rule takes: it begins with none of `#`, quotes, `_` and the five keywords, and with `$` only where that is all
 pub record Ordinary (first : ℕ) (others : List ℕ) : Type 0 where
@@ -56,7 +62,7 @@ pub data FormedBy (rules : Rules) : Token → Type 0 where
       → FormedBy rules (record { kind = 8; content = first ∷ others })
   single : (c : List ℕ) → all isAllowed c ≡ true → quotable 39 c ≡ true → FormedBy rules (record { kind = 9; content = c })
   double : (c : List ℕ) → all isAllowed c ≡ true → quotable 34 c ≡ true → FormedBy rules (record { kind = 10; content = c })
-  text : (c : List ℕ) → all isAllowed c ≡ true → fieldable c ≡ true → FormedBy rules (record { kind = 11; content = c })
+  text : (c : List ℕ) → all isAllowed c ≡ true → fieldable rules c ≡ true → FormedBy rules (record { kind = 11; content = c })
   global : FormedBy rules (record { kind = 12; content = globalWord })
 
 -- by today's rules

@@ -12,12 +12,12 @@ use lib.ListN.{length, drop, length-append}
 use Rattle.star_text.specs.Bytes.{isBlank, isTerminate, isWhite, isPrintable, isAllowed, all, leading}
 use Rattle.star_lex.specs.Rules.{Rules}
 use Rattle.star_lex.specs.Tokens.{Token, opening, dataWord, saveWord, loopWord, stopWord, globalWord}
-use Rattle.star_lex.specs.Split.{token, after, whiteNext, quoted, field, limited, blockWord, frameWord, alone, nameWord, referenceWord, wordLexeme, wordFrom, quotedLexeme, fieldLexeme, lexeme}
+use Rattle.star_lex.specs.Split.{token, after, whiteNext, quoted, closeLength, field, limited, blockWord, frameWord, alone, nameWord, referenceWord, wordLexeme, wordFrom, quotedLexeme, fieldLexeme, lexeme}
 use Rattle.star_lex.proofs.Formed.{FormedBy, Ordinary, quotable, block, frame, frameEnd, loop, stop, name, word, reference, single, double, text, global}
 use Rattle.star_text.proofs.Bytes.{eqb-comm, allowed-printable, all-head, all-tail, all-append, run-append-drop, all-printable-run}
 use Rattle.star_lex.proofs.Cases.{impossible, cond-cases, either-cases}
 use Rattle.star_lex.proofs.Words.{after-append}
-use Rattle.star_lex.proofs.Delimited.{quoted-some, field-some, fieldLexeme-some}
+use Rattle.star_lex.proofs.Delimited.{quoted-some, field-some}
 
 -- a word's token: the word's bytes
 record WordOf (rules : Rules) (more : ℕ) (w : List ℕ) (m : ℕ) (t : Token) : Type 0 where
@@ -135,23 +135,23 @@ allowed-part b bs c rest s a =
     (and-eq-true-iff (all isAllowed c) (all isAllowed rest)) .0 (rw (s, all-append isAllowed c rest) at (all-tail isAllowed b bs a)) .0
 
 fieldLexeme-token : (rules : Rules) (b : ℕ) (bs : List ℕ) (more : ℕ) (t : Token) → b ≡ 59 → all isAllowed (b ∷ bs) ≡ true
-    → fieldLexeme (field bs) bs ≡ token more t → TokenAt rules b bs more t
+    → fieldLexeme rules (field rules bs) bs ≡ token more t → TokenAt rules b bs more t
 unfolding fieldLexeme opening
-fieldLexeme-token rules b bs more t n a e = go (field bs) refl e
+fieldLexeme-token rules b bs more t n a e = go (field rules bs) refl e
   where
-    go : (o : Option (List ℕ)) → field bs ≡ o → fieldLexeme o bs ≡ token more t → TokenAt rules b bs more t
+    go : (o : Option (List ℕ)) → field rules bs ≡ o → fieldLexeme rules o bs ≡ token more t → TokenAt rules b bs more t
     go none q h = impossible cc
     go (some c) q h =
-        cond-cases (whiteNext (drop (length c + 2) bs)) _ _ _ (sym (fieldLexeme-some bs c q) ∙ h)
+        cond-cases (whiteNext (drop (length c + closeLength rules (drop (length c) bs)) bs)) _ _ _ h
         (λ w g.
-        let (z, rest, s, u, l) = field-some bs c q in
+        let (rest, s, u, l) = field-some rules bs c q in
         let r : record { kind = 11; content = c } ≡ t = cc in
-        let v : length c + 2 ≡ more = cc in
+        let v : length c + closeLength rules (drop (length c) bs) ≡ more = cc in
         rw (← r, n) (record {
-          rest = z ∷ 59 ∷ rest;
+          rest = rest;
           bytes = ap (λ r. 59 ∷ r) s;
           within = omega arith;
-          formed = text c (allowed-part b bs c (z ∷ 59 ∷ rest) s a) l;
+          formed = text c (allowed-part b bs c rest s a) l;
         }))
         (λ w g. impossible cc)
 

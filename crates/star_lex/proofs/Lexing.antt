@@ -1,6 +1,6 @@
 -- What the functions on strings, text fields and words find is what the rules of the split say: a content ends before the end of the file
 -- exactly where it closes, and a word's content and what stands before it are the whole word.
-use mathlib.Core.Path.{_≡_, refl, sym, _∙_, ap}
+use mathlib.Core.Path.{_≡_, refl, sym, _∙_, ap, subst}
 use mathlib.Core.Bool.{Bool, true, false, cond, not}
 use mathlib.Core.List.{List, [], _∷_}
 use mathlib.Core.Option.{Option, none, some}
@@ -10,19 +10,20 @@ use native.Mathlib.Numerals.{add-one}
 use native.Mathlib.Omega.{arith}
 use lib.Dec.{leb}
 use lib.ListN.{length, getD, take, drop, length-append, length-drop}
-use lib.Seq.{drop-cons, drop-drop, getD-drop}
-use Rattle.star_text.specs.Bytes.{isWhite, leading}
+use lib.Seq.{drop-cons, drop-drop, drop-append-seam, getD-drop}
+use Rattle.star_text.specs.Bytes.{isTerminate, isWhite, leading}
 use Rattle.star_text.specs.Classes.{Classes, belowIn}
 use Rattle.star_text.proofs.Classes.{run-word}
 use Rattle.star_text.proofs.Run.{run-take}
-use Rattle.star_lex.specs.Rules.{Rules}
+use Rattle.star_lex.specs.Rules.{Rules, today}
 use Rattle.star_lex.specs.Tokens.{opening, dataWord, saveWord, loopWord, stopWord, globalWord}
-use Rattle.star_lex.specs.Split.{Lexeme, gap, token, faulty, after, either, quoted, field, whiteNext, limited, blockWord, frameWord, alone, nameWord, referenceWord, wordLexeme, quotedLexeme, fieldLexeme}
+use Rattle.star_lex.specs.Split.{Lexeme, gap, token, faulty, after, either, quoted, lineEnd, closes, closeLength, field, whiteNext, limited, blockWord, frameWord, alone, nameWord, referenceWord, wordLexeme, quotedLexeme, fieldLexeme}
 use Rattle.star_lex.specs.Answer.{scannedAt, endOf, wordAnswer}
 use Rattle.star_lex.specs.declared.Scanned.the-variants.{Token as FoundToken, Fault}
 use Rattle.star_lex.specs.declared.word.Word.the-variants.{Kind, Ill}
 use Rattle.star_lex.proofs.Cases.{impossible}
-use Rattle.star_lex.proofs.Delimited.{quoted-some, field-some, fieldLexeme-some}
+use Rattle.star_lex.proofs.LineEnds.{closes-first, closes-within}
+use Rattle.star_lex.proofs.Delimited.{quoted-some, field-some}
 use Rattle.star_lex.proofs.Words.{after-append}
 
 -- of a content that ends within the file
@@ -40,47 +41,67 @@ module _ (file : List ℕ) (at : ℕ) (inside : at < length file) where
   rest : List ℕ
   rest = drop (at + 1) file
 
-  field-fits : (c : List ℕ) → field rest ≡ some c → at + 1 + length c + 2 ≤ length file
-  unfolding rest
-  field-fits c e =
-      let (z, r, s, t, u) = field-some rest c e in
-      omega (arith, length-drop (at + 1) file, simp length-append at (ap length s))
+  -- what closes a field, with how many bytes
+  field-closing : (c : List ℕ) → field today rest ≡ some c
+      → (isTerminate (getD file (at + 1 + length c) 0) ≡ true) × (at + 1 + length c + closeLength today (drop (at + 1 + length c) file) ≤ length file)
+  unfolding rest closes lineEnd
+  field-closing c e =
+      let (r, s, t, u) = field-some today rest c e in
+      let d : drop (at + 1 + length c) file ≡ r = sym (drop-drop (length c) (at + 1) file) ∙ ap (drop (length c)) s ∙ drop-append-seam c r in
+      let w = closes-within today r t in
+      let n : length r ≡ length file - (at + 1 + length c) = ap length (sym d) ∙ length-drop (at + 1 + length c) file in
+      let i : at + 1 + length c < length file = omega arith in (
+        closes-first today _ _ (ap (closes today) (sym (drop-cons file (at + 1 + length c) 0 i) ∙ d) ∙ t),
+        rw d (omega arith),
+      )
 
-  pub field-open : endOf (length file) (at + 1) (field (drop (at + 1) file)) ≡ length file
-      → scannedAt at (fieldLexeme (field (drop (at + 1) file)) (drop (at + 1) file)) ≡ Fault 6
+  field-fits : (c : List ℕ) → field today rest ≡ some c → at + 1 + length c < length file
+  unfolding closeLength
+  field-fits c e = omega (arith, field-closing c e .1)
+
+  pub field-open : (end : ℕ) → end ≡ endOf (length file) (at + 1) (field today (drop (at + 1) file)) → end ≡ length file
+      → scannedAt at (fieldLexeme today (field today (drop (at + 1) file)) (drop (at + 1) file)) ≡ Fault 6
   unfolding scannedAt fieldLexeme rest
-  field-open e = rw (none-of (length file) (at + 1) (field rest) (λ c q. omega (arith, field-fits c q)) e)
+  field-open end n e = rw (none-of (length file) (at + 1) (field today rest) field-fits (sym n ∙ e))
 
-  pub field-within : (endOf (length file) (at + 1) (field (drop (at + 1) file)) ≡ length file → ⊥)
-      → endOf (length file) (at + 1) (field (drop (at + 1) file)) + 2 ≤ length file
-  unfolding endOf rest
-  field-within f =
-      let (c, q) = some-of (length file) (at + 1) (field rest) f in
-      rw q (field-fits c q)
+  -- the content of a field that ends within the file
+  field-content : (end : ℕ) → end ≡ endOf (length file) (at + 1) (field today rest) → (end ≡ length file → ⊥)
+      → (c : List ℕ) × (field today rest ≡ some c) × (end ≡ at + 1 + length c)
+  unfolding endOf
+  field-content end n f =
+      let (c, q) = some-of (length file) (at + 1) (field today rest) (λ e. f (n ∙ e)) in
+      (c, q, n ∙ ap (endOf (length file) (at + 1)) q)
 
-  field-closed : (c : List ℕ) (t : Bool) → field rest ≡ some c → whiteNext (drop (endOf (length file) (at + 1) (field rest) + 2) file) ≡ t
-      → scannedAt at (fieldLexeme (field rest) rest)
-      ≡ cond t (FoundToken 11 (at + 1) (endOf (length file) (at + 1) (field rest)) (endOf (length file) (at + 1) (field rest) + 2)) (Fault 6)
-  unfolding scannedAt endOf rest opening
-  field-closed c t q w =
-      let e : at + 1 + (length c + 2) ≡ at + 1 + length c + 2 = omega arith in
-      rw (q, fieldLexeme-some rest c q, drop-drop, e, rw q at w) (ends t e)
+  -- there a line end begins, and it and `;` are of the file
+  pub field-within : (end : ℕ) → end ≡ endOf (length file) (at + 1) (field today (drop (at + 1) file)) → (end ≡ length file → ⊥)
+      → (isTerminate (getD file end 0) ≡ true) × (end + closeLength today (drop end file) ≤ length file)
+  unfolding rest
+  field-within end n f =
+      let (c, q, m) = field-content end n f in
+      subst (λ e. (isTerminate (getD file e 0) ≡ true) × (e + closeLength today (drop e file) ≤ length file)) (sym m) (field-closing c q)
+
+  field-closed : (c : List ℕ) (t : Bool) (end more : ℕ) → field today rest ≡ some c → end ≡ at + 1 + length c → more ≡ lineEnd today (drop end file)
+      → whiteNext (drop (end + more + 1) file) ≡ t
+      → scannedAt at (fieldLexeme today (field today rest) rest) ≡ cond t (FoundToken 11 (at + 1) end (end + more + 1)) (Fault 6)
+  unfolding scannedAt fieldLexeme closeLength rest opening
+  field-closed c t end more q m n w =
+      let e : at + 1 + (length c + (more + 1)) ≡ end + more + 1 = omega arith in
+      rw (q, drop-drop (length c), ← m, ← n, drop-drop (length c + (more + 1)), e, w) (ends t e)
     where
-      ends : (t : Bool) → at + 1 + (length c + 2) ≡ at + 1 + length c + 2
-          → scannedAt at (cond t (token (length c + 2) (record { kind = 11; content = c })) (faulty 6))
-          ≡ cond t (FoundToken 11 (at + 1) (at + 1 + length c) (at + 1 + length c + 2)) (Fault 6)
-      ends true f = ap (FoundToken 11 (at + 1) (at + 1 + length c)) f
+      ends : (t : Bool) → at + 1 + (length c + (more + 1)) ≡ end + more + 1
+          → scannedAt at (cond t (token (length c + (more + 1)) (record { kind = 11; content = c })) (faulty 6))
+          ≡ cond t (FoundToken 11 (at + 1) end (end + more + 1)) (Fault 6)
+      ends true f = rw (← m, f)
       ends false f = refl
 
-  pub field-found : (t : Bool) → (endOf (length file) (at + 1) (field (drop (at + 1) file)) ≡ length file → ⊥)
-      → whiteNext (drop (endOf (length file) (at + 1) (field (drop (at + 1) file)) + 2) file) ≡ t
-      → scannedAt at (fieldLexeme (field (drop (at + 1) file)) (drop (at + 1) file))
-      ≡ cond t (FoundToken 11 (at + 1) (endOf (length file) (at + 1) (field (drop (at + 1) file)))
-      (endOf (length file) (at + 1) (field (drop (at + 1) file)) + 2)) (Fault 6)
+  pub field-found : (t : Bool) (end more : ℕ) → end ≡ endOf (length file) (at + 1) (field today (drop (at + 1) file)) → (end ≡ length file → ⊥)
+      → more ≡ lineEnd today (drop end file) → whiteNext (drop (end + more + 1) file) ≡ t
+      → scannedAt at (fieldLexeme today (field today (drop (at + 1) file)) (drop (at + 1) file))
+      ≡ cond t (FoundToken 11 (at + 1) end (end + more + 1)) (Fault 6)
   unfolding rest
-  field-found t f w =
-      let (c, q) = some-of (length file) (at + 1) (field rest) f in
-      field-closed c t q w
+  field-found t end more n f l w =
+      let (c, q, m) = field-content end n f in
+      field-closed c t end more q m l w
 
   module _ (quote kind : ℕ) (graphic : isWhite quote ≡ false) where
     quoted-fits : (c : List ℕ) → quoted quote rest ≡ some c → at + 1 + length c + 1 ≤ length file

@@ -2,6 +2,7 @@ pub mod Formed
 pub mod Answers
 pub mod Cases
 pub mod Closing
+pub mod LineEnds
 pub mod Delimited
 pub mod Each
 pub mod FreshName
@@ -11,6 +12,8 @@ pub mod Lexing
 pub mod Parts
 pub mod Bound
 pub mod PlainSplit
+pub mod NoPair
+pub mod Windows
 pub mod Splitting
 pub mod Steps
 pub mod Table

@@ -1,6 +1,6 @@
 -- The plain form of well-formed tokens splits into them again: at a token's first byte the rule of its kind is the first that fits, and it
 -- stops at the token's last byte; the byte 10 after it ends the line, so that the next token begins at a line's start.
-use mathlib.Core.Path.{_≡_, refl, _∙_, ap}
+use mathlib.Core.Path.{_≡_, refl, sym, _∙_, ap}
 use mathlib.Core.Bool.{Bool, true, false, cond, not, _&&_}
 use mathlib.Core.List.{List, [], _∷_, _++_, map, flatMap, append-assoc, append-nil}
 use mathlib.Core.Option.{none, some}
@@ -10,17 +10,17 @@ use native.Mathlib.Numerals.{add-one}
 use native.Mathlib.Omega.{arith}
 use borrow.Author.Tests.{le-leb, eqb-true}
 use lib.Dec.{eqb}
-use lib.ListN.{length, length-append}
-use lib.Seq.{drop-append-add}
+use lib.ListN.{length, drop, length-append}
+use lib.Seq.{drop-append-seam}
 use Rattle.star_text.specs.Bytes.{isBlank, isTerminate, isWhite, isPrintable, isAllowed, all, firstRefused}
 use Rattle.star_lex.specs.Rules.{Rules, today}
 use Rattle.star_lex.specs.Tokens.{Token, Placed, Each, opening, dataWord, saveWord, loopWord, stopWord, globalWord}
 use Rattle.star_text.specs.Outcome.{accepted, then, need}
-use Rattle.star_lex.specs.Split.{token, after, starts, whiteNext, quoted, field, limited, blockWord, frameWord, alone, nameWord, referenceWord, either, wordLexeme, wordFrom, quotedLexeme, lexeme, moreOf, before, enter, split, tokensBy, tokensOf}
-use Rattle.star_lex.specs.Plain.{newline, closing, indent, plainToken, plainOf}
+use Rattle.star_lex.specs.Split.{token, after, starts, whiteNext, quoted, lineEnd, closes, closeLength, field, limited, blockWord, frameWord, alone, nameWord, referenceWord, either, wordLexeme, wordFrom, quotedLexeme, fieldLexeme, lexeme, moreOf, before, enter, split, tokensBy, tokensOf}
+use Rattle.star_lex.specs.Plain.{ends, newline, closing, indent, plainToken, plainBy, plainOf}
 use Rattle.star_lex.proofs.Formed.{FormedBy, WellFormed, Ordinary, quotable, fieldable, block, frame, frameEnd, loop, stop, name, word, reference, single, double, text, global}
 use Rattle.star_text.proofs.Bytes.{eqb-comm, printable-not-white, printable-allowed, not-white-not-terminate, all-head, all-tail, all-append, all-cond, all-implies, run-append, run-all}
-use Rattle.star_lex.proofs.Delimited.{quoted-append, field-append, fieldLexeme-some}
+use Rattle.star_lex.proofs.Delimited.{quoted-append, field-append}
 
 -- the split goes over bytes that belong to a lexeme already read
 pub split-skip : (rules : Rules) (xs rest : List ℕ) (at : ℕ) → split rules (length xs) false at (xs ++ rest) ≡ split rules 0 false (at + length xs) rest
@@ -29,19 +29,19 @@ split-skip rules [] rest at = rw add-zero
 split-skip rules (x ∷ xs) rest at = rw (add-suc, ← suc-add) (split-skip rules xs rest (suc at))
 
 -- a token with its delimiters
-abbrev body : Token → List ℕ
-body t = opening (t .kind) ++ (t .content ++ closing (t .kind) (t .content))
+abbrev body : (rules : Rules) → Token → List ℕ
+body rules t = opening (t .kind) ++ (t .content ++ closing rules (t .kind) (t .content))
 
 -- at the first byte of a token before a line end, the split finds that token
 record Reads (rules : Rules) (line : Bool) (t : Token) : Type 0 where
   first : ℕ
   others : List ℕ
-  bytes : body t ≡ first ∷ others
+  bytes : body rules t ≡ first ∷ others
   stays : isTerminate first ≡ false
   reads : (rest : List ℕ) → lexeme rules line first (others ++ 10 ∷ rest) ≡ token (length others) t
 
 split-body : (rules : Rules) (line : Bool) (t : Token) (at : ℕ) (rest : List ℕ) → Reads rules line t
-    → split rules 0 line at (body t ++ 10 ∷ rest) ≡ before (record { at = at; token = t }) (split rules 0 true (suc (at + length (body t))) rest)
+    → split rules 0 line at (body rules t ++ 10 ∷ rest) ≡ before (record { at = at; token = t }) (split rules 0 true (suc (at + length (body rules t))) rest)
 unfolding split enter moreOf lexeme isWhite isBlank isTerminate
 split-body rules line t at rest r = rw (r .bytes) (rw (r .reads rest, r .stays) (rw (split-skip rules (r .others) (10 ∷ rest) (suc at), add-suc, suc-add)))
 
@@ -66,7 +66,7 @@ lexeme-word rules line b xs rest o e =
       run-append (λ c. not (isWhite c)) xs 10 rest (all-implies isPrintable (λ c. not (isWhite c)) (λ c q. ap not (printable-not-white c q)) xs e) refl,
     )
 
-reads-word : (rules : Rules) (line : Bool) (b : ℕ) (xs : List ℕ) (t : Token) → Opens line b → all isPrintable xs ≡ true → body t ≡ b ∷ xs
+reads-word : (rules : Rules) (line : Bool) (b : ℕ) (xs : List ℕ) (t : Token) → Opens line b → all isPrintable xs ≡ true → body rules t ≡ b ∷ xs
     → wordLexeme rules (length xs) (b ∷ xs) ≡ token (length xs) t → Reads rules line t
 reads-word rules line b xs t o e h k = record {
   first = b;
@@ -162,16 +162,56 @@ reads-double rules c e = record {
   reads = λ rest. quotedLexeme-append 10 34 c rest refl e;
 }
 
-reads-text : (rules : Rules) (c : List ℕ) → fieldable c ≡ true → Reads rules true (record { kind = 11; content = c })
-unfolding opening closing newline lexeme whiteNext isWhite isBlank isTerminate
+-- what the writer puts after a text field's content closes it, and makes no pair with the content's last byte
+newline-closes : (rules : Rules) (c rest : List ℕ) → closes rules (newline rules c ++ 59 ∷ rest) ≡ true
+unfolding newline closes lineEnd starts isTerminate
+newline-closes rules c rest = go (rules .pairs) (ends 13 c) refl
+  where
+    go : (p e : Bool) → rules .pairs ≡ p → closes rules (cond (p && e) (13 ∷ 10 ∷ []) (10 ∷ []) ++ 59 ∷ rest) ≡ true
+    go true true q = rw q
+    go true false q = rw q
+    go false e q = rw q
+
+newline-apart : (rules : Rules) (c rest : List ℕ) → (rules .pairs && (ends 13 c && starts 10 (newline rules c ++ rest))) ≡ false
+unfolding newline starts
+newline-apart rules c rest = go (rules .pairs) (ends 13 c)
+  where
+    go : (p e : Bool) → (p && (e && starts 10 (cond (p && e) (13 ∷ 10 ∷ []) (10 ∷ []) ++ rest))) ≡ false
+    go true true = refl
+    go true false = refl
+    go false e = refl
+
+newline-length : (rules : Rules) (c rest : List ℕ) → closeLength rules (newline rules c ++ 59 ∷ rest) ≡ length (newline rules c ++ 59 ∷ [])
+unfolding newline closeLength lineEnd starts isTerminate
+newline-length rules c rest = go (rules .pairs) (ends 13 c) refl
+  where
+    go : (p e : Bool) → rules .pairs ≡ p
+        → closeLength rules (cond (p && e) (13 ∷ 10 ∷ []) (10 ∷ []) ++ 59 ∷ rest) ≡ length {A = ℕ} (cond (p && e) (13 ∷ 10 ∷ []) (10 ∷ []) ++ 59 ∷ [])
+    go true true q = rw q
+    go true false q = rw q
+    go false e q = rw q
+
+fieldLexeme-append : (rules : Rules) (c rest : List ℕ) → fieldable rules c ≡ true
+    → fieldLexeme rules (field rules ((c ++ (newline rules c ++ 59 ∷ [])) ++ 10 ∷ rest)) ((c ++ (newline rules c ++ 59 ∷ [])) ++ 10 ∷ rest)
+    ≡ token (length (c ++ (newline rules c ++ 59 ∷ []))) (record { kind = 11; content = c })
+unfolding fieldLexeme whiteNext isWhite isBlank isTerminate
+fieldLexeme-append rules c rest e =
+    let close : List ℕ = newline rules c ++ 59 ∷ [] in
+    let s : (c ++ close) ++ 10 ∷ rest ≡ c ++ (newline rules c ++ 59 ∷ 10 ∷ rest) = simp append-assoc in
+    let f : field rules (c ++ (newline rules c ++ 59 ∷ 10 ∷ rest)) ≡ some c = field-append rules c (newline rules c ++ 59 ∷ 10 ∷ rest) (newline-closes rules c (10 ∷ rest)) (newline-apart rules c (59 ∷ 10 ∷ rest)) e in
+    let n : length c + closeLength rules (drop (length c) (c ++ (newline rules c ++ 59 ∷ 10 ∷ rest))) ≡ length (c ++ close)
+    = rw (drop-append-seam c (newline rules c ++ 59 ∷ 10 ∷ rest), newline-length rules c (10 ∷ rest), length-append c close) in
+    let w : drop (length (c ++ close)) (c ++ (newline rules c ++ 59 ∷ 10 ∷ rest)) ≡ 10 ∷ rest = ap (drop (length (c ++ close))) (sym s) ∙ drop-append-seam (c ++ close) (10 ∷ rest) in
+    rw (s, f, n, w)
+
+reads-text : (rules : Rules) (c : List ℕ) → fieldable rules c ≡ true → Reads rules true (record { kind = 11; content = c })
+unfolding opening closing lexeme isWhite isBlank isTerminate
 reads-text rules c e = record {
   first = 59;
-  others = c ++ 10 ∷ 59 ∷ [];
+  others = c ++ (newline rules c ++ 59 ∷ []);
   bytes = refl;
   stays = refl;
-  reads = λ rest.
-      let f : field (c ++ 10 ∷ 59 ∷ 10 ∷ rest) ≡ some c = field-append c 10 (10 ∷ rest) refl e in
-      rw (append-assoc, f, fieldLexeme-some (c ++ 10 ∷ 59 ∷ 10 ∷ rest) c f, drop-append-add c (10 ∷ 59 ∷ 10 ∷ rest) 2, length-append);
+  reads = λ rest. fieldLexeme-append rules c rest e;
 }
 
 -- a token's bytes stand at the line's start or after one blank, and are read there
@@ -198,31 +238,31 @@ stands rules (double c a e) = bare refl (reads-double rules c e)
 stands rules (text c a e) = bare refl (reads-text rules c e)
 stands rules global = bare refl (reads-global rules)
 
-plainToken-append : (t : Token) (rest : List ℕ) → plainToken t ++ rest ≡ indent t ++ (body t ++ 10 ∷ rest)
+plainToken-append : (rules : Rules) (t : Token) (rest : List ℕ) → plainToken rules t ++ rest ≡ indent t ++ (body rules t ++ 10 ∷ rest)
 unfolding plainToken
-plainToken-append t rest = simp append-assoc
+plainToken-append rules t rest = simp append-assoc
 
-length-plainToken : (t : Token) → length (plainToken t) ≡ length (indent t) + suc (length (body t))
+length-plainToken : (rules : Rules) (t : Token) → length (plainToken rules t) ≡ length (indent t) + suc (length (body rules t))
 unfolding plainToken
-length-plainToken t = simp length-append (omega arith)
+length-plainToken rules t = simp length-append (omega arith)
 
 -- a token's plain form at a line's start: its first byte comes after what indents it
 split-plain : (rules : Rules) (t : Token) (at : ℕ) (rest : List ℕ) → Stands rules t
-    → split rules 0 true at (plainToken t ++ rest)
-    ≡ before (record { at = at + length (indent t); token = t }) (split rules 0 true (at + length (plainToken t)) rest)
+    → split rules 0 true at (plainToken rules t ++ rest)
+    ≡ before (record { at = at + length (indent t); token = t }) (split rules 0 true (at + length (plainToken rules t)) rest)
 unfolding split enter moreOf lexeme isWhite isBlank isTerminate
 split-plain rules t at rest (bare e r) = rw (plainToken-append, length-plainToken, e) (rw (split-body rules true t at rest r, add-zero, zero-add, add-suc))
 split-plain rules t at rest (indented e r) =
-    let q : suc (suc at + length (body t)) ≡ at + (1 + suc (length (body t))) = omega arith in
+    let q : suc (suc at + length (body rules t)) ≡ at + (1 + suc (length (body rules t))) = omega arith in
     rw (plainToken-append, length-plainToken, e) (rw (split-body rules false t (suc at) rest r, q, add-one))
 
 split-plainOf : (rules : Rules) (ts : List Token) (at : ℕ) → Each (FormedBy rules) ts
-    → (ps : List Placed) × (split rules 0 true at (plainOf ts) ≡ accepted ps) × (map (λ p. p .token) ps ≡ ts)
-unfolding plainOf flatMap split before then
+    → (ps : List Placed) × (split rules 0 true at (plainBy rules ts) ≡ accepted ps) × (map (λ p. p .token) ps ≡ ts)
+unfolding plainBy flatMap split before then
 split-plainOf rules [] at ws = ([], refl, refl)
 split-plainOf rules (t ∷ ts) at ws =
-    let (ps, e, h) = split-plainOf rules ts (at + length (plainToken t)) (ws .1) in
-    (record { at = at + length (indent t); token = t } ∷ ps, rw (split-plain rules t at (plainOf ts) (stands rules (ws .0)), e), rw h)
+    let (ps, e, h) = split-plainOf rules ts (at + length (plainToken rules t)) (ws .1) in
+    (record { at = at + length (indent t); token = t } ∷ ps, rw (split-plain rules t at (plainBy rules ts) (stands rules (ws .0)), e), rw h)
 
 printables-allowed : (xs : List ℕ) → all isPrintable xs ≡ true → all isAllowed xs ≡ true
 printables-allowed = all-implies isPrintable isAllowed printable-allowed
@@ -246,28 +286,36 @@ allowed-opening : (kind : ℕ) → all isAllowed (opening kind) ≡ true
 unfolding opening all isAllowed dataWord saveWord
 allowed-opening kind = search (all-cond isAllowed) depth 8
 
-allowed-closing : (kind : ℕ) (content : List ℕ) → all isAllowed (closing kind content) ≡ true
-unfolding closing newline all isAllowed
-allowed-closing kind content = search (all-cond isAllowed) depth 8
+allowed-newline : (rules : Rules) (content : List ℕ) → all isAllowed (newline rules content ++ 59 ∷ []) ≡ true
+unfolding newline all isAllowed
+allowed-newline rules content = go (rules .pairs && ends 13 content)
+  where
+    go : (t : Bool) → all isAllowed (cond t (13 ∷ 10 ∷ []) (10 ∷ []) ++ 59 ∷ []) ≡ true
+    go true = refl
+    go false = refl
+
+allowed-closing : (rules : Rules) (kind : ℕ) (content : List ℕ) → all isAllowed (closing rules kind content) ≡ true
+unfolding closing all isAllowed
+allowed-closing rules kind content = search (all-cond isAllowed, allowed-newline rules content) depth 8
 
 allowed-indent : (t : Token) → all isAllowed (indent t) ≡ true
 unfolding indent all isAllowed
 allowed-indent t = search (all-cond isAllowed) depth 8
 
-allowed-plain : (rules : Rules) {t : Token} → FormedBy rules t → all isAllowed (plainToken t) ≡ true
+allowed-plain : (rules : Rules) {t : Token} → FormedBy rules t → all isAllowed (plainToken rules t) ≡ true
 unfolding plainToken all isAllowed
-allowed-plain rules {t} w = simp (all-append isAllowed, allowed-indent t, allowed-opening (t .kind), allowed-content rules w, allowed-closing (t .kind) (t .content))
+allowed-plain rules {t} w = simp (all-append isAllowed, allowed-indent t, allowed-opening (t .kind), allowed-content rules w, allowed-closing rules (t .kind) (t .content))
 
-allowed-plainOf : (rules : Rules) (ts : List Token) → Each (FormedBy rules) ts → all isAllowed (plainOf ts) ≡ true
-unfolding plainOf flatMap all
+allowed-plainOf : (rules : Rules) (ts : List Token) → Each (FormedBy rules) ts → all isAllowed (plainBy rules ts) ≡ true
+unfolding plainBy flatMap all
 allowed-plainOf rules [] ws = refl
 allowed-plainOf rules (t ∷ ts) ws = rw (all-append isAllowed, allowed-plain rules (ws .0), allowed-plainOf rules ts (ws .1))
 
-pub lex-plain-by : (rules : Rules) (ts : List Token) → Each (FormedBy rules) ts → (ps : List Placed) × (tokensBy rules (plainOf ts) ≡ accepted ps) × (map (λ p. p .token) ps ≡ ts)
+pub lex-plain-by : (rules : Rules) (ts : List Token) → Each (FormedBy rules) ts → (ps : List Placed) × (tokensBy rules (plainBy rules ts) ≡ accepted ps) × (map (λ p. p .token) ps ≡ ts)
 unfolding tokensBy firstRefused need
 lex-plain-by rules ts ws =
     let (ps, e, h) = split-plainOf rules ts 0 ws in
-    (ps, rw (run-all isAllowed (plainOf ts) (allowed-plainOf rules ts ws), le-leb (length (plainOf ts)) (length (plainOf ts)) (omega arith)) e, h)
+    (ps, rw (run-all isAllowed (plainBy rules ts) (allowed-plainOf rules ts ws), le-leb (length (plainBy rules ts)) (length (plainBy rules ts)) (omega arith)) e, h)
 
 pub lex-plain : (ts : List Token) → Each WellFormed ts → (ps : List Placed) × (tokensOf (plainOf ts) ≡ accepted ps) × (map (λ p. p .token) ps ≡ ts)
 lex-plain = lex-plain-by today

@@ -9,7 +9,7 @@ use native.Mathlib.Numerals.{add-one}
 use native.Mathlib.Omega.{arith}
 use lib.Dec.{eqb}
 use lib.ListN.{length, getD, drop, length-append, length-drop, drop-of-length-le}
-use lib.Seq.{drop-cons, drop-drop}
+use lib.Seq.{drop-cons, drop-drop, drop-append-seam}
 use Rattle.star_rows.specs.Widths.{tokenWidth}
 use Rattle.star_rows.specs.Rows.{putRow, stored}
 use Rattle.star_rows.proofs.Stored.{stored-none, stored-more}
@@ -18,11 +18,12 @@ use Rattle.star_text.proofs.Run.{run-length}
 use Rattle.star_lex.specs.Rules.{today}
 use Rattle.star_lex.specs.Tokens.{Token, Placed, opening, tokenRow}
 use Rattle.star_text.specs.Outcome.{refused, accepted, then}
-use Rattle.star_lex.specs.Split.{Lexeme, gap, token, faulty, Split, whiteNext, quoted, field, quotedLexeme, fieldLexeme, wordLexeme, wordFrom, lexeme, moreOf, before, enter, split}
+use Rattle.star_lex.specs.Split.{Lexeme, gap, token, faulty, Split, whiteNext, quoted, closeLength, field, quotedLexeme, fieldLexeme, wordLexeme, wordFrom, lexeme, moreOf, before, enter, split}
 use Rattle.star_lex.specs.Answer.{scannedAt}
 use Rattle.star_lex.specs.declared.Scanned.the-variants.{Gap, Token as FoundToken, Fault}
 use Rattle.star_lex.proofs.Cases.{impossible}
-use Rattle.star_lex.proofs.Delimited.{quoted-some, field-some, fieldLexeme-some}
+use Rattle.star_lex.proofs.LineEnds.{closes-within}
+use Rattle.star_lex.proofs.Delimited.{quoted-some, field-some}
 use Rattle.star_lex.proofs.Lexing.{Shaped, word-shaped}
 
 -- bytes that belong to a lexeme already read are passed over
@@ -89,14 +90,15 @@ cond-within : (size : ℕ) (t : Bool) (x y : Lexeme) → (t ≡ true → Within 
 cond-within size true x y f g = f refl
 cond-within size false x y f g = g refl
 
-field-within : (bs : List ℕ) (o : Option (List ℕ)) → field bs ≡ o → Within (length bs) (fieldLexeme o bs)
+field-within : (bs : List ℕ) (o : Option (List ℕ)) → field today bs ≡ o → Within (length bs) (fieldLexeme today o bs)
 unfolding fieldLexeme opening
 field-within bs none e = (omega arith, omega arith)
 field-within bs (some c) e =
-    let (z, rest, s, u, v) = field-some bs c e in
-    let n : length bs ≡ length c + suc (suc (length rest)) = simp length-append at (ap length s) in
-    rw (fieldLexeme-some bs c e)
-    (cond-within (length bs) (whiteNext (drop (length c + 2) bs)) _ _ (λ q. (omega arith, omega arith)) (λ q. (omega arith, omega arith)))
+    let (rest, s, u, v) = field-some today bs c e in
+    let n : length bs ≡ length c + length rest = simp length-append at (ap length s) in
+    let w = closes-within today rest u in
+    let d : drop (length c) bs ≡ rest = ap (drop (length c)) s ∙ drop-append-seam c rest in
+    rw d (cond-within (length bs) (whiteNext (drop (length c + closeLength today rest) bs)) _ _ (λ q. (omega arith, omega arith)) (λ q. (omega arith, omega arith)))
 
 quoted-within : (q kind : ℕ) (bs : List ℕ) (o : Option (List ℕ)) → isWhite q ≡ false → length (opening kind) ≡ 1 → quoted q bs ≡ o
     → Within (length bs) (quotedLexeme kind o)
@@ -127,7 +129,7 @@ unfolding lexeme opening isWhite isBlank isTerminate
 lexeme-within line b bs =
     cond-within n (isWhite b) _ _ (λ e. zero-le)
     (λ e. cond-within n (eqb b 35) _ _ (λ e. run-length (λ c. not (isTerminate c)) bs)
-    (λ e. cond-within n (line && eqb b 59) _ _ (λ e. field-within bs (field bs) refl)
+    (λ e. cond-within n (line && eqb b 59) _ _ (λ e. field-within bs (field today bs) refl)
     (λ e. cond-within n (eqb b 39) _ _ (λ e. quoted-within 39 9 bs (quoted 39 bs) refl refl refl)
     (λ e. cond-within n (eqb b 34) _ _ (λ e. quoted-within 34 10 bs (quoted 34 bs) refl refl refl) (λ e. word-within b bs)))))
   where

@@ -1,5 +1,5 @@
 -- Every token of a split is well formed for its kind: each was read as a lexeme of bytes that are all allowed.
-use mathlib.Core.Path.{_≡_}
+use mathlib.Core.Path.{_≡_, refl, _∙_}
 use mathlib.Core.Bool.{Bool, true}
 use mathlib.Core.List.{List, map}
 use Prim.Native.Nat.{ℕ}
@@ -8,7 +8,7 @@ use Rattle.star_lex.specs.Rules.{Rules, today, atLevels}
 use Rattle.star_lex.specs.Tokens.{Token, Placed, Each}
 use Rattle.star_text.specs.Outcome.{accepted}
 use Rattle.star_lex.specs.Split.{tokensBy, tokensOf}
-use Rattle.star_lex.proofs.Formed.{FormedBy, WellFormed, block, frame, frameEnd, loop, stop, name, word, reference, single, double, text, global}
+use Rattle.star_lex.proofs.Formed.{FormedBy, WellFormed, fieldable-same, block, frame, frameEnd, loop, stop, name, word, reference, single, double, text, global}
 use Rattle.star_text.proofs.Bytes.{all-tail}
 use Rattle.star_lex.proofs.Lexemes.{lexeme-token}
 use Rattle.star_lex.proofs.Steps.{Steps, ends, within, passes, takes, accepted-steps, accepted-allowed}
@@ -40,5 +40,5 @@ formed-levels n (word x xs e o) = word x xs e o
 formed-levels n (reference x xs e) = reference x xs e
 formed-levels n (single c a e) = single c a e
 formed-levels n (double c a e) = double c a e
-formed-levels n (text c a e) = text c a e
+formed-levels {rules} n (text c a e) = text c a (fieldable-same (atLevels rules n) rules refl c ∙ e)
 formed-levels n global = global

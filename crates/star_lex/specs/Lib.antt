@@ -6,3 +6,4 @@ pub mod Answer
 pub mod LineEnd
 pub mod Table
 pub mod Holds
+pub mod Demands

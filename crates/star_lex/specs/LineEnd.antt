@@ -5,6 +5,7 @@ use mathlib.Core.List.{List}
 use Prim.Native.Nat.{ℕ, _≤_, _<_}
 use lib.ListN.{length, getD, drop}
 use Rattle.star_text.specs.Bytes.{isTerminate}
+use Rattle.star_lex.specs.Rules.{today}
 use Rattle.star_lex.specs.Split.{field}
 use Rattle.star_lex.specs.Answer.{endOf}
 
@@ -12,4 +13,4 @@ use Rattle.star_lex.specs.Answer.{endOf}
 pub record LineEnd (file : List ℕ) (from at : ℕ) : Type 0 where
   pub further : from ≤ at
   pub ends : at < length file → isTerminate (getD file at 0) ≡ true
-  pub closes : endOf (length file) at (field (drop at file)) ≡ endOf (length file) from (field (drop from file))
+  pub closes : endOf (length file) at (field today (drop at file)) ≡ endOf (length file) from (field today (drop from file))

@@ -1,10 +1,12 @@
 -- The rules that requests vary, in one record. Believed. The split (specs/Split.antt), the trees, machine and theorems of star_grammar are for every such
 -- record; a reading has today's, which star_parse, star_read and what stands on them cite.
-use mathlib.Core.Bool.{Bool, true}
+use mathlib.Core.Bool.{Bool, true, false}
 use Prim.Native.Nat.{ℕ}
 
 pub record Rules : Type 0 where
-  -- names and codes have at most so many bytes: specification 3.12
+  -- 13 directly followed by 10 is one line end: specification 2.2
+  pub pairs : Bool
+  -- names and codes have at most so many bytes: 3.12
   pub longest : ℕ
   -- loops have at most so many levels: 4.13
   pub levels : ℕ
@@ -12,8 +14,12 @@ pub record Rules : Type 0 where
   pub headerStops : Bool
 
 abbrev pub today : Rules
-today = record { longest = 32; levels = 8; headerStops = true }
+today = record { pairs = true; longest = 32; levels = 8; headerStops = true }
 
 -- the same rules, with so many levels
 abbrev pub atLevels : Rules → ℕ → Rules
-atLevels rules n = record { longest = rules .longest; levels = n; headerStops = rules .headerStops }
+atLevels rules n = record { pairs = rules .pairs; longest = rules .longest; levels = n; headerStops = rules .headerStops }
+
+-- the same rules, with each of 10, 12 and 13 one line end by itself
+abbrev pub unpaired : Rules → Rules
+unpaired rules = record { pairs = false; longest = rules .longest; levels = rules .levels; headerStops = rules .headerStops }

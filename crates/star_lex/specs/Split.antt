@@ -44,22 +44,22 @@ quoted q (b ∷ bs) =
     cond (eqb b q && whiteNext bs) (some []) (cond (isTerminate b) none (Option·map (λ c. b ∷ c) (quoted q bs)))
 
 -- how many bytes a line end that begins here takes; 0 where none begins
-unfoldable pub lineEnd : List ℕ → ℕ
-lineEnd [] = 0
-lineEnd (b ∷ bs) = cond (isTerminate b) 1 0
+unfoldable pub lineEnd : (rules : Rules) → List ℕ → ℕ
+lineEnd rules [] = 0
+lineEnd rules (b ∷ bs) = cond (rules .pairs && (eqb b 13 && starts 10 bs)) 2 (cond (isTerminate b) 1 0)
 
 -- a text field closes here: a line end that is directly followed by `;`
-unfoldable pub closes : List ℕ → Bool
-closes bs = leb 1 (lineEnd bs) && starts 59 (drop (lineEnd bs) bs)
+unfoldable pub closes : (rules : Rules) → List ℕ → Bool
+closes rules bs = leb 1 (lineEnd rules bs) && starts 59 (drop (lineEnd rules bs) bs)
 
 -- how many bytes close it
-unfoldable pub closeLength : List ℕ → ℕ
-closeLength bs = lineEnd bs + 1
+unfoldable pub closeLength : (rules : Rules) → List ℕ → ℕ
+closeLength rules bs = lineEnd rules bs + 1
 
 -- the content of a text field, from after its `;`: up to where it first closes
-unfoldable pub field : List ℕ → Option (List ℕ)
-field [] = none
-field (b ∷ bs) = cond (closes (b ∷ bs)) (some []) (Option·map (λ c. b ∷ c) (field bs))
+unfoldable pub field : (rules : Rules) → List ℕ → Option (List ℕ)
+field rules [] = none
+field rules (b ∷ bs) = cond (closes rules (b ∷ bs)) (some []) (Option·map (λ c. b ∷ c) (field rules bs))
 
 -- a name or code of more bytes than the rules allow is refusal 4
 unfoldable pub limited : (rules : Rules) → ℕ → ℕ → List ℕ → Lexeme
@@ -114,10 +114,10 @@ quotedLexeme kind none = faulty 5
 quotedLexeme kind (some c) = token (suc (length c)) (record { kind = kind; content = c })
 
 -- the byte after the closing `;` must be white space or the end
-unfoldable pub fieldLexeme : Option (List ℕ) → List ℕ → Lexeme
-fieldLexeme none bs = faulty 6
-fieldLexeme (some c) bs =
-    let more : ℕ = length c + closeLength (drop (length c) bs) in
+unfoldable pub fieldLexeme : (rules : Rules) → Option (List ℕ) → List ℕ → Lexeme
+fieldLexeme rules none bs = faulty 6
+fieldLexeme rules (some c) bs =
+    let more : ℕ = length c + closeLength rules (drop (length c) bs) in
     cond (whiteNext (drop more bs)) (token more (record { kind = 11; content = c })) (faulty 6)
 
 -- at a token's start, the first rule that fits holds: whether the byte is the first of its line, the byte, and those after it
@@ -125,7 +125,7 @@ unfoldable pub lexeme : (rules : Rules) → Bool → ℕ → List ℕ → Lexeme
 lexeme rules line b bs =
     cond (isWhite b) (gap 0)
     (cond (eqb b 35) (gap (length (leading (λ c. not (isTerminate c)) bs)))
-    (cond (line && eqb b 59) (fieldLexeme (field bs) bs)
+    (cond (line && eqb b 59) (fieldLexeme rules (field rules bs) bs)
     (cond (eqb b 39) (quotedLexeme 9 (quoted 39 bs))
     (cond (eqb b 34) (quotedLexeme 10 (quoted 34 bs))
     (wordFrom rules b bs)))))

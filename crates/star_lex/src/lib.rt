@@ -52,18 +52,19 @@ pub enum Scanned {
 fn text_field(classes: &[u8; 256], file: &[u8], at: usize) -> Scanned
     requires { ⌜ at < length (now file) ⌝ }
     requires { ⌜ Classes (now classes) ⌝ }
-    ensures { λ r. ⌜ r ≡ scannedAt at (fieldLexeme (field (drop (at + 1) (now (file .entry)))) (drop (at + 1) (now (file .entry)))) ⌝ }
+    ensures { λ r. ⌜ r ≡ scannedAt at (fieldLexeme today (field today (drop (at + 1) (now (file .entry)))) (drop (at + 1) (now (file .entry)))) ⌝ }
 {
     let end = scan::field_end(classes, file, at + 1);
     if end == file.len() {
         return Scanned::Fault(6);
     }
-    if scan::white_at(classes, file, end + 2) {
+    let next = end + scan::line_end_length(file, end) + 1;
+    if scan::white_at(classes, file, next) {
         Scanned::Token {
             kind: 11,
             start: at + 1,
             end,
-            next: end + 2,
+            next,
         }
     } else {
         Scanned::Fault(6)

@@ -1,11 +1,13 @@
 // Where strings and text fields close. The functions are lent the class table.
 ghost use mathlib.Core.Path.{_≡_};
-ghost use mathlib.Core.Bool.{_&&_};
+ghost use mathlib.Core.Bool.{true, _&&_};
 ghost use Prim.Native.Nat.{_+_, _<_};
 ghost use lib.Dec.{eqb};
 ghost use lib.ListN.{length, getD, drop};
+ghost use Rattle.star_text.specs.Bytes.{isTerminate};
 ghost use Rattle.star_text.specs.Classes.{Classes};
-ghost use Rattle.star_lex.specs.Split.{quoted, field, starts, whiteNext};
+ghost use Rattle.star_lex.specs.Rules.{today};
+ghost use Rattle.star_lex.specs.Split.{quoted, lineEnd, field, starts, whiteNext};
 ghost use Rattle.star_lex.specs.Answer.{endOf};
 ghost use Rattle.star_lex.specs.LineEnd.{LineEnd};
 
@@ -74,17 +76,39 @@ fn line_end(classes: &[u8; 256], file: &[u8], from: usize) -> usize
     star_text::run_end(classes, file, from, TERMINATE)
 }
 
+// Whether 13 stands at a place, directly followed by 10.
+fn is_pair(file: &[u8], at: usize) -> bool
+    requires { ⌜ at < length (now file) ⌝ }
+    ensures { λ r. ⌜ r ≡ (eqb (getD (now (file .entry)) at 0) 13 && starts 10 (drop (at + 1) (now (file .entry)))) ⌝ }
+{
+    if file[at] == b'\r' {
+        byte_at(file, at + 1, b'\n')
+    } else {
+        false
+    }
+}
+
+// How many bytes the line end at a place takes.
+pub(crate) fn line_end_length(file: &[u8], at: usize) -> usize
+    requires { ⌜ at < length (now file) ⌝ }
+    requires { ⌜ isTerminate (getD (now file) at 0) ≡ true ⌝ }
+    ensures { λ r. ⌜ r ≡ lineEnd today (drop at (now (file .entry))) ⌝ }
+{
+    if is_pair(file, at) { 2 } else { 1 }
+}
+
 // Where the text field whose content begins at `from` closes, or the file's length.
 pub(crate) fn field_end(classes: &[u8; 256], file: &[u8], from: usize) -> usize
     requires { ⌜ Classes (now classes) ⌝ }
-    ensures { λ r. ⌜ r ≡ endOf (length (now (file .entry))) from (field (drop from (now (file .entry)))) ⌝ }
+    ensures { λ r. ⌜ r ≡ endOf (length (now (file .entry))) from (field today (drop from (now (file .entry)))) ⌝ }
 {
     let mut at = line_end(classes, file, from);
     while at < file.len() {
-        if byte_at(file, at + 1, b';') {
+        let next = at + line_end_length(file, at);
+        if byte_at(file, next, b';') {
             return at;
         }
-        at = line_end(classes, file, at + 1);
+        at = line_end(classes, file, next);
     }
     file.len()
 }

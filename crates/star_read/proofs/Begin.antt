@@ -11,7 +11,7 @@ use Rattle.star_lex.specs.Rules.{Rules}
 use Rattle.star_text.specs.Names.{key}
 use Rattle.star_lex.specs.Tokens.{Token, Placed, Each}
 use Rattle.star_lex.specs.Split.{tokensBy}
-use Rattle.star_lex.specs.Plain.{plainOf}
+use Rattle.star_lex.specs.Plain.{plainBy}
 use Rattle.star_lex.proofs.Formed.{FormedBy}
 use Rattle.star_lex.proofs.Each.{each-append}
 use Rattle.star_lex.proofs.FreshName.{fresh-name-of}
@@ -78,7 +78,7 @@ clean-completion p (body w outer l inner f) x c k n =
 -- a row with its completion
 record Completed (rules : Rules) (p : List Token) (st : State) (x : Token) : Type 0 where
   tokens : List Placed
-  splits : tokensBy rules (plainOf (p ++ completion st x)) ≡ accepted tokens
+  splits : tokensBy rules (plainBy rules (p ++ completion st x)) ≡ accepted tokens
   are : tokensOnly tokens ≡ p ++ completion st x
   tree : File
   yield : fileYield tree ≡ tokensOnly tokens
@@ -88,7 +88,7 @@ module _ (rules : Rules) (least : 1 ≤ rules .levels) (p : List Token) (h : Eac
   completed : (x : List ℕ) → FormedBy rules (record { kind = 6; content = x }) → Completed rules p st (record { kind = 6; content = x })
   completed x w =
       let t : Token = record { kind = 6; content = x } in
-      let s : (ps : List Placed) × (tokensBy rules (plainOf (p ++ completion st t)) ≡ accepted ps) × (tokensOnly ps ≡ p ++ completion st t)
+      let s : (ps : List Placed) × (tokensBy rules (plainBy rules (p ++ completion st t)) ≡ accepted ps) × (tokensOnly ps ≡ p ++ completion st t)
       = lex-plain-by rules (p ++ completion st t) (each-append (FormedBy rules) p (completion st t) .1 (h, formed-completion rules st t w)) in
       let a : (f : File) × (fileYield f ≡ p ++ completion st t) × FileBy rules f
       = rest-alive rules least p (each-fixed rules p h) st r e t (record { kind6 = refl }) in
@@ -100,7 +100,7 @@ walks-shape rules usable p h k =
     let t : Token = record { kind = 6; content = n .0 } in
     let c : Completed rules p (k .0) t = completed rules (usable .some-level) p h (k .0) (k .1) (k .2) (n .0) (n .1) in
     record {
-      file = plainOf (p ++ completion (k .0) t);
+      file = plainBy rules (p ++ completion (k .0) t);
       tokens = c .tokens;
       splits = c .splits;
       tree = c .tree;
@@ -119,7 +119,7 @@ walks-begins rules usable p h l k c =
     let t : Token = record { kind = 6; content = n .0 } in
     let d : Completed rules p (k .0) t = completed rules (usable .some-level) p h (k .0) (k .1) (k .2) (n .0) (n .1) in
     record {
-      file = plainOf (p ++ completion (k .0) t);
+      file = plainBy rules (p ++ completion (k .0) t);
       tokens = d .tokens;
       splits = d .splits;
       reading = tree-reading rules (tokensOnly (d .tokens)) (d .tree) (d .yield) (d .whole) (rw (d .are) (clean-completion p (k .0) t c refl (n .2)));

@@ -23,7 +23,7 @@ use Rattle.star_grammar.proofs.Unambiguous.{unambiguous}
 use Rattle.star_unique.specs.Repeat.{nothing}
 use Rattle.star_unique.proofs.Clean.{Clean, clean-repeat}
 use Rattle.star_read.specs.Read.{FileRows, ReadOutcome, Sizes, tokensOnly, decide, grammarOf, rowsFit, readBy}
-use Rattle.star_read.specs.Demands.{Usable, Fair, FirstBad, Bad, AcceptedExactly, OneReading, RowsOfReading, PlaceOfRefusal}
+use Rattle.star_read.specs.Demands.{Usable, Room, Tokenized, Fair, FirstBad, Bad, AcceptedExactly, OneReading, RowsOfReading, PlaceOfRefusal}
 use Rattle.star_read.proofs.Readings.{reading-run, reading-clean, run-reading}
 use Rattle.star_read.proofs.Verdict.{Verdict, verdict}
 use Rattle.star_read.proofs.Fitting.{tokenized-read, room-fits, fits-accepted}
@@ -59,11 +59,17 @@ rows-of-reading rules usable file words ps rows e =
     let r : (r : ReadingBy rules (tokensOnly qs)) × (rows ≡ rowsOf (r .tree)) = run-reading rules (usable .some-level) (tokensOnly qs) rows (well-formed-by rules file qs s) (v .1) (v .2) in
     rw (← (v .0)) (s, r .0, r .1)
 
-pub accepted-exactly : AcceptedExactly
+-- a file whose tokens have a reading is read with its rows, where there is room
+pub reads-rows : (rules : Rules) (file : List ℕ) (words : Sizes) (ps : List Placed) → Tokenized rules file words ps → (r : ReadingBy rules (tokensOnly ps))
+    → Room words (rowsOf (r .tree)) → readBy rules file words ≡ accepted (ps, rowsOf (r .tree))
 unfolding then
+reads-rows rules file words ps f r room =
+    tokenized-read rules file words ps f ∙ ap (λ o. then o (rowsFit words)) (reading-accepted rules ps (length file) r) ∙ room-fits words ps (rowsOf (r .tree)) room
+
+pub accepted-exactly : AcceptedExactly
 accepted-exactly rules usable file words ps f = (
   λ a. rows-of-reading rules usable file words ps (a .0) (a .1) .1,
-  λ r. (rowsOf (r .tree), tokenized-read rules file words ps (f .tokenized) ∙ ap (λ o. then o (rowsFit words)) (reading-accepted rules ps (length file) r) ∙ room-fits words ps (rowsOf (r .tree)) (f .rooms r)),
+  λ r. (rowsOf (r .tree), reads-rows rules file words ps (f .tokenized) r (f .rooms r)),
 )
 
 -- where there is room, a refused file has a first bad token

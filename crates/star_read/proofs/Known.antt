@@ -7,7 +7,7 @@ use Rattle.star_text.specs.Bytes.{isBlank, isTerminate, isWhite, isPrintable, i
 use Rattle.star_rows.specs.Rows.{holding}
 use Rattle.star_lex.specs.Tokens.{Placed, tokenRow, opening, dataWord, saveWord, loopWord, stopWord, globalWord}
 use Rattle.star_lex.specs.Split.{after, starts, whiteNext, quoted, lineEnd, closes, closeLength, field, limited, blockWord, frameWord, alone, nameWord, referenceWord, either, wordLexeme, wordFrom, quotedLexeme, fieldLexeme, lexeme, moreOf, before, enter, split, tokensBy}
-use Rattle.star_lex.specs.Plain.{newline, closing, indent, plainToken, plainOf}
+use Rattle.star_lex.specs.Plain.{ends, newline, closing, indent, plainToken, plainBy}
 use Rattle.star_lex.specs.Answer.{tokensInBy, tokensFit}
 use Rattle.star_grammar.specs.Tables.{Rows, noRows, pass, openLoop, putSet, putName, putPacket, putValue, setWords, nameWords, packetWords, valueWords}
 use Rattle.star_grammar.specs.Machine.{sortOf, setOf, parentOf, between, filled, fill, valueAt, begin, headerStep, noValue, noValueAt, bodyStep, startStep, namedStep, step, endBetween, endBody, endRun, run as machine-run}
@@ -17,7 +17,7 @@ use Rattle.star_read.specs.Answer.{tablesOf}
 use Rattle.star_read.specs.Known.{Known, readTokens, ofWords, fullCase}
 
 pub known : Known
-unfolding flatMap isBlank isTerminate isWhite isPrintable isAllowed leading firstRefused holding tokenRow opening dataWord saveWord loopWord stopWord globalWord after starts whiteNext quoted lineEnd closes closeLength field limited blockWord frameWord alone nameWord referenceWord either wordLexeme wordFrom quotedLexeme fieldLexeme lexeme moreOf before enter split tokensBy newline closing indent plainToken plainOf tokensInBy tokensFit then need noRows pass openLoop putSet putName putPacket putValue setWords nameWords packetWords valueWords sortOf setOf parentOf between filled fill valueAt begin headerStep noValue noValueAt bodyStep startStep namedStep step endBetween endBody endRun machine-run key equal among nothing isTaken takeBlock takeFrame endFrame takeName takes firstRepeat tokenPlace decide grammarOf roomFor rowsFit readBy tablesOf readTokens
+unfolding flatMap isBlank isTerminate isWhite isPrintable isAllowed leading firstRefused holding tokenRow opening dataWord saveWord loopWord stopWord globalWord after starts whiteNext quoted lineEnd closes closeLength field limited blockWord frameWord alone nameWord referenceWord either wordLexeme wordFrom quotedLexeme fieldLexeme lexeme moreOf before enter split tokensBy ends newline closing indent plainToken plainBy tokensInBy tokensFit then need noRows pass openLoop putSet putName putPacket putValue setWords nameWords packetWords valueWords sortOf setOf parentOf between filled fill valueAt begin headerStep noValue noValueAt bodyStep startStep namedStep step endBetween endBody endRun machine-run key equal among nothing isTaken takeBlock takeFrame endFrame takeName takes firstRepeat tokenPlace decide grammarOf roomFor rowsFit readBy tablesOf readTokens
 known = (refl, refl, refl, refl, refl, refl, refl, refl, refl, refl, refl, refl)
 
 -- the tokens and the rows of the full case

@@ -16,3 +16,4 @@ pub mod Judging
 pub mod Settling
 pub mod Starting
 pub mod Accepted
+pub mod Windows

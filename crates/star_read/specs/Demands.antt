@@ -1,7 +1,8 @@
 -- What is demanded of reading: statements alone, over readings (star_grammar's specs/Reading.antt) and the split of a file. Believed; star's Demands cites it.
 use mathlib.Core.Path.{_≡_}
+use mathlib.Core.Bool.{true}
 use mathlib.Core.Logic.{_⊎_, _↔_}
-use mathlib.Core.List.{List, [], _∷_, _++_}
+use mathlib.Core.List.{List, [], _∷_, _++_, map}
 use Prim.Native.Nat.{ℕ, _*_, _≤_, _<_}
 use lib.ListN.{length}
 use Rattle.star_text.specs.Outcome.{refused, accepted}
@@ -10,6 +11,7 @@ use Rattle.star_text.specs.Bytes.{mostBytes}
 use Rattle.star_lex.specs.Rules.{Rules, atLevels}
 use Rattle.star_lex.specs.Tokens.{Token, Placed, Each}
 use Rattle.star_lex.specs.Split.{tokensBy, tokensOf}
+use Rattle.star_lex.specs.Demands.{noPair, windows, windowsToken}
 use Rattle.star_grammar.specs.Tree.{File, fileYield, FileBy, IsName, IsValue}
 use Rattle.star_grammar.specs.Tables.{Rows, rowsOf}
 use Rattle.star_grammar.specs.Reading.{ReadingBy, Reading}
@@ -192,3 +194,11 @@ pub data ReadAnswer (file : List ℕ) (words : Sizes) : Answer → Tables → Ty
 
 abbrev pub ReadAnswers : Type 0
 ReadAnswers = (file : List ℕ) (words : Sizes) → ReadAnswer file words (readAnswer (readOf file words)) (tablesOf (readOf file words) words)
+
+-- as Windows writes it, an accepted file without 13, 10 is accepted, within the size limit and with room: with the same rows of tables 2 to 5, and the
+-- same tokens but for the line ends within text fields
+abbrev pub WindowsReads : Type 0
+WindowsReads = (rules : Rules) → Usable rules → rules .pairs ≡ true → (file : List ℕ) (words : Sizes) (ps : List Placed) (rows : Rows)
+    → noPair file ≡ true → readBy rules file words ≡ accepted (ps, rows) → length (windows file) ≤ mostBytes
+    → (others : Sizes) → length ps * tokenWidth ≤ others .tokens → Room others rows
+    → (qs : List Placed) × (readBy rules (windows file) others ≡ accepted (qs, rows)) × (tokensOnly qs ≡ map windowsToken (tokensOnly ps))

@@ -13,7 +13,7 @@ mostBytes = 1048576
 unfoldable pub isBlank : ℕ → Bool
 isBlank b = eqb b 9 || eqb b 11 || eqb b 32
 
--- terminate: 10, 12, 13, each byte one line end by itself
+-- terminate: 10, 12, 13; each ends a line
 unfoldable pub isTerminate : ℕ → Bool
 isTerminate b = eqb b 10 || eqb b 12 || eqb b 13
 

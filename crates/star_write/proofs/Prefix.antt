@@ -9,7 +9,8 @@ use lib.Seq.{take-suc, take-all}
 use Rattle.star_text.specs.Bytes.{mostBytes}
 use Rattle.star_rows.proofs.Stored.{flat-append}
 use Rattle.star_lex.specs.Tokens.{Token}
-use Rattle.star_lex.specs.Plain.{plainToken, plainOf}
+use Rattle.star_lex.specs.Rules.{today}
+use Rattle.star_lex.specs.Plain.{plainToken, plainBy, plainOf}
 use Rattle.star_lex.specs.Table.{contentIn, orEmpty}
 use Rattle.star_lex.specs.Holds.{Holds, fileTokens, tokenAt}
 use Rattle.star_lex.proofs.Held.{Row, held-row, held-content, count-tokens}
@@ -19,15 +20,15 @@ use Rattle.star_write.specs.Put.{tokenOf}
 abbrev pub plainFirst : ℕ → List Token → List ℕ
 plainFirst n ts = plainOf (take n ts)
 
-plain-one : (t : Token) → plainOf (t ∷ []) ≡ plainToken t
-unfolding plainOf flatMap
-plain-one t = append-nil (plainToken t)
+plain-one : (t : Token) → plainOf (t ∷ []) ≡ plainToken today t
+unfolding plainBy flatMap
+plain-one t = append-nil (plainToken today t)
 
 plain-append : (ts us : List Token) → plainOf (ts ++ us) ≡ plainOf ts ++ plainOf us
-unfolding plainOf
-plain-append = flat-append plainToken
+unfolding plainBy
+plain-append = flat-append (plainToken today)
 
-plain-next : (n : ℕ) (ts : List Token) (d : Token) → n < length ts → plainFirst (n + 1) ts ≡ plainFirst n ts ++ plainToken (getD ts n d)
+plain-next : (n : ℕ) (ts : List Token) (d : Token) → n < length ts → plainFirst (n + 1) ts ≡ plainFirst n ts ++ plainToken today (getD ts n d)
 plain-next n ts d h = rw (add-one, take-suc ts n d h, plain-append, plain-one)
 
 plain-within : (n : ℕ) (ts : List Token) → length (plainFirst n ts) ≤ length (plainOf ts)
@@ -37,9 +38,9 @@ plain-within n ts =
 
 -- one token more of a table, by its kind and content
 pub record Next (file : List ℕ) (n kind : ℕ) (content : List ℕ) : Type 0 where
-  pub plain : plainFirst (n + 1) (fileTokens file) ≡ plainFirst n (fileTokens file) ++ plainToken (tokenOf kind content)
+  pub plain : plainFirst (n + 1) (fileTokens file) ≡ plainFirst n (fileTokens file) ++ plainToken today (tokenOf kind content)
   pub within : length (plainFirst (n + 1) (fileTokens file)) ≤ length (plainOf (fileTokens file))
-  pub sum : length (plainFirst (n + 1) (fileTokens file)) ≡ length (plainFirst n (fileTokens file)) + length (plainToken (tokenOf kind content))
+  pub sum : length (plainFirst (n + 1) (fileTokens file)) ≡ length (plainFirst n (fileTokens file)) + length (plainToken today (tokenOf kind content))
   pub small : length content ≤ mostBytes
 
 module _ (file words : List ℕ) (count : ℕ) (h : Holds file words count) where
@@ -50,7 +51,7 @@ module _ (file words : List ℕ) (count : ℕ) (h : Holds file words count) wher
   next n below content c =
       let r : Row file words n = held-row file words count h n below in
       let e : content ≡ tokenAt file n .content = c ∙ held-content file words count h n below in
-      let plain : plainFirst (n + 1) (fileTokens file) ≡ plainFirst n (fileTokens file) ++ plainToken (tokenOf (getD words (n * 3) 0) content) =
+      let plain : plainFirst (n + 1) (fileTokens file) ≡ plainFirst n (fileTokens file) ++ plainToken today (tokenOf (getD words (n * 3) 0) content) =
       rw (r .kind, e) (plain-next n (fileTokens file) _ (omega (arith, count-tokens file words count h))) in
       record {
         plain = plain;

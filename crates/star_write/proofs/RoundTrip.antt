@@ -14,12 +14,12 @@ use Rattle.star_lex.specs.Split.{tokensOf}
 use Rattle.star_lex.specs.Plain.{plainOf}
 use Rattle.star_lex.proofs.WellFormed.{split-well-formed}
 use Rattle.star_lex.proofs.PlainSplit.{lex-plain}
-use Rattle.star_grammar.specs.Tables.{Rows, rowsOf}
+use Rattle.star_grammar.specs.Tables.{rowsOf}
 use Rattle.star_grammar.specs.Reading.{Reading}
 use Rattle.star_read.specs.Read.{Sizes, tokensOnly, readOf}
-use Rattle.star_read.specs.Demands.{Room, Fair}
+use Rattle.star_read.specs.Demands.{Room, Tokenized}
 use Rattle.star_read.proofs.Usable.{today-usable}
-use Rattle.star_read.proofs.Demand3.{accepted-exactly, one-reading, rows-of-reading}
+use Rattle.star_read.proofs.Demand3.{rows-of-reading, reads-rows}
 use Rattle.star_write.specs.Write.{plainFits, writeOf}
 use Rattle.star_write.specs.Demands.{ReadsBack, RoundTrip, WritesAgain}
 use Rattle.star_write.proofs.Outcomes.{Wrote, wrote}
@@ -29,27 +29,16 @@ moved : {ts us : List Token} → ts ≡ us → Reading ts → Reading us
 moved e r = record { tree = r .tree; yield = r .yield ∙ e; whole = r .whole; distinct = r .distinct }
 
 -- a file that splits into such tokens is read with the same rows
-module _ (plain : List ℕ) (words : Sizes) (ps qs : List Placed) (r : Reading (tokensOnly ps)) where
-  same-rows : tokensOnly qs ≡ tokensOnly ps → (s : Reading (tokensOnly qs)) → rowsOf (s .tree) ≡ rowsOf (r .tree)
-  unfolding moved
-  same-rows e s = ap rowsOf (one-reading today (tokensOnly qs) s (moved (sym e) r))
-
-  read-rows : tokensOnly qs ≡ tokensOnly ps → (rows : Rows) → readOf plain words ≡ accepted (qs, rows) → rows ≡ rowsOf (r .tree)
-  read-rows e rows a = let b = rows-of-reading today today-usable plain words qs rows a in b .2 ∙ same-rows e (b .1)
-
-  reads-same : length plain ≤ mostBytes → tokensOf plain ≡ accepted qs → tokensOnly qs ≡ tokensOnly ps → length ps * 3 ≤ words .tokens
-      → Room words (rowsOf (r .tree)) → readOf plain words ≡ accepted (qs, rowsOf (r .tree))
-  reads-same small splits e table rooms =
-      let fair : Fair today plain words qs = record {
-        tokenized = record {
-          small = small;
-          splits = splits;
-          room = omega (arith, length-map qs (λ p. p .token), length-map ps (λ p. p .token), ap length e);
-        };
-        rooms = λ s. rw (same-rows e s) rooms;
-      } in
-      let a = accepted-exactly today today-usable plain words qs fair .1 (moved (sym e) r) in
-      a .1 ∙ ap (λ rows. accepted (qs, rows)) (read-rows e (a .0) (a .1))
+reads-same : (plain : List ℕ) (words : Sizes) (ps qs : List Placed) (r : Reading (tokensOnly ps)) → length plain ≤ mostBytes → tokensOf plain ≡ accepted qs
+    → tokensOnly qs ≡ tokensOnly ps → length ps * 3 ≤ words .tokens → Room words (rowsOf (r .tree)) → readOf plain words ≡ accepted (qs, rowsOf (r .tree))
+unfolding moved
+reads-same plain words ps qs r small splits e table rooms =
+    let fits : Tokenized today plain words qs = record {
+      small = small;
+      splits = splits;
+      room = omega (arith, length-map qs (λ p. p .token), length-map ps (λ p. p .token), ap length e);
+    } in
+    reads-rows today plain words qs fits (moved (sym e) r) rooms
 
 pub round-trip : RoundTrip
 round-trip file words room ps rows plain e others table rooms =

@@ -5,9 +5,10 @@ ghost use mathlib.Core.Bool.{_&&_};
 ghost use Prim.Native.Nat.{_+_, _≤_};
 ghost use lib.Dec.{eqb};
 ghost use lib.ListN.{length, take};
+ghost use Rattle.star_lex.specs.Rules.{today};
 ghost use Rattle.star_lex.specs.Tokens.{opening};
 ghost use Rattle.star_lex.specs.Split.{starts};
-ghost use Rattle.star_lex.specs.Plain.{closing, indent, plainToken};
+ghost use Rattle.star_lex.specs.Plain.{ends, closing, indent, plainToken};
 ghost use Rattle.star_write.specs.Put.{Put, Filled, tokenOf};
 
 // Whether a token is a kind 7 word that begins with `;`: at a line's start it would open a text field.
@@ -58,35 +59,63 @@ fn put_opening(out: &mut [u8], at: usize, kind: u32) -> usize
     room::put_bytes(out, at, &bytes[0..star_lex::word::lead(kind)])
 }
 
+// Whether a content ends in 13.
+fn ends_in_return(content: &[u8]) -> bool
+    ensures { λ r. ⌜ r ≡ ends 13 (now (content .entry)) ⌝ }
+{
+    let len = content.len();
+    if len == 0 {
+        return false;
+    }
+    content[len - 1] == b'\r'
+}
+
+// The bytes that close a text field of this content, and more: as many count as `field_closing_length` says.
+fn field_closing(content: &[u8]) -> [u8; 3]
+    ensures { λ r. ⌜ take (length (closing today 11 (now (content .entry)))) r ≡ closing today 11 (now (content .entry)) ⌝ }
+{
+    if ends_in_return(content) {
+        [b'\r', b'\n', b';']
+    } else {
+        [b'\n', b';', 0]
+    }
+}
+
+// How many bytes close a text field of this content.
+fn field_closing_length(content: &[u8]) -> usize
+    ensures { λ r. ⌜ r ≡ length (closing today 11 (now (content .entry))) ⌝ }
+{
+    if ends_in_return(content) { 3 } else { 2 }
+}
+
 // The bytes that stand after a token's content, and more: as many count as `closing_length` says.
-fn closing_bytes(kind: u32, content: &[u8]) -> [u8; 2]
-    ensures { λ r. ⌜ take (length (closing kind (now (content .entry)))) r ≡ closing kind (now (content .entry)) ⌝ }
-    ensures { λ _. ⌜ length (closing kind (now (content .entry))) ≤ 2 ⌝ }
+fn closing_bytes(kind: u32, content: &[u8]) -> [u8; 3]
+    ensures { λ r. ⌜ take (length (closing today kind (now (content .entry)))) r ≡ closing today kind (now (content .entry)) ⌝ }
 {
     match kind {
-        9 => [b'\'', 0],
-        10 => [b'"', 0],
-        11 => [b'\n', b';'],
-        _ => [0, 0],
+        9 => [b'\'', 0, 0],
+        10 => [b'"', 0, 0],
+        11 => field_closing(content),
+        _ => [0, 0, 0],
     }
 }
 
 // How many bytes stand after a token's content.
 fn closing_length(kind: u32, content: &[u8]) -> usize
-    ensures { λ r. ⌜ r ≡ length (closing kind (now (content .entry))) ⌝ }
+    ensures { λ r. ⌜ r ≡ length (closing today kind (now (content .entry))) ⌝ }
 {
     match kind {
         9 => 1,
         10 => 1,
-        11 => 2,
+        11 => field_closing_length(content),
         _ => 0,
     }
 }
 
 // Puts what stands after a token's content.
 fn put_closing(out: &mut [u8], at: usize, kind: u32, content: &[u8]) -> usize
-    requires { ⌜ at + length (closing kind (now content)) ≤ length (now out) ⌝ }
-    ensures { λ r. ⌜ Put (closing kind (now (content .entry))) at (now (out .entry)) (now (out .exit)) r ⌝ }
+    requires { ⌜ at + length (closing today kind (now content)) ≤ length (now out) ⌝ }
+    ensures { λ r. ⌜ Put (closing today kind (now (content .entry))) at (now (out .entry)) (now (out .exit)) r ⌝ }
 {
     let bytes = closing_bytes(kind, content);
     room::put_bytes(out, at, &bytes[0..closing_length(kind, content)])
@@ -94,8 +123,8 @@ fn put_closing(out: &mut [u8], at: usize, kind: u32, content: &[u8]) -> usize
 
 // Writes a token at the start of the room that is left, and answers how many bytes. It is called by proved layers only, which lend room enough.
 pub(crate) fn put_token(out: &mut [u8], kind: u32, content: &[u8]) -> usize
-    requires { ⌜ length (plainToken (tokenOf kind (now content))) ≤ length (now out) ⌝ }
-    ensures { λ r. ⌜ Filled (plainToken (tokenOf kind (now (content .entry)))) (now (out .entry)) (now (out .exit)) r ⌝ }
+    requires { ⌜ length (plainToken today (tokenOf kind (now content))) ≤ length (now out) ⌝ }
+    ensures { λ r. ⌜ Filled (plainToken today (tokenOf kind (now (content .entry)))) (now (out .entry)) (now (out .exit)) r ⌝ }
 {
     let indented = put_indent(out, 0, kind, content);
     let opened = put_opening(out, indented, kind);
@@ -113,7 +142,7 @@ fn indent_length(kind: u32, content: &[u8]) -> usize
 
 // How many bytes a token takes, with the line end after it.
 pub(crate) fn token_length(kind: u32, content: &[u8]) -> usize
-    ensures { λ r. ⌜ r ≡ length (plainToken (tokenOf kind (now (content .entry)))) ⌝ }
+    ensures { λ r. ⌜ r ≡ length (plainToken today (tokenOf kind (now (content .entry)))) ⌝ }
 {
     let start = indent_length(kind, content) + star_lex::word::lead(kind);
     start + content.len() + closing_length(kind, content) + 1

@@ -70,19 +70,23 @@ impl Piece {
         Piece { bytes: bytes.into(), text_field: false }
     }
 
-    fn text(content: &[u8], terminate: u8) -> Self {
-        let bytes = [b";", content, &[terminate, b';']].concat();
+    fn text(rng: &mut Rng) -> Self {
+        let (content, end) = (text(rng), rng.pick(&LINE_ENDS));
+        let bytes = [b";", content.as_slice(), end, b";"].concat();
         Piece { bytes, text_field: true }
     }
 }
 
 const BLANKS: [u8; 3] = [9, 11, 32];
 const TERMINATES: [u8; 3] = [10, 12, 13];
+const LINE_ENDS: [&[u8]; 4] = [b"\n", b"\x0c", b"\r", b"\r\n"];
 /// Bytes at which readers slip.
 const SHARP: &[u8] = b";;;'\"'\"#_$$ \n\t\r\x0b\x0c01az";
 
-fn white(rng: &mut Rng) -> u8 {
-    let kinds = [32, 10, 32, 10, 9, 11, 12, 13];
+/// A byte of white space, or 13, 10.
+fn white(rng: &mut Rng) -> &'static [u8] {
+    let kinds: [&[u8]; 10] =
+        [b" ", b"\n", b" ", b"\n", b"\r\n", b"\r\n", b"\t", b"\x0b", b"\x0c", b"\r"];
     rng.pick(&kinds)
 }
 
@@ -143,16 +147,23 @@ fn quotable(rng: &mut Rng, quote: u8) -> Vec<u8> {
     content
 }
 
-/// What a text field may hold: anything but a terminate before a `;`.
+/// What a text field may hold: anything but a terminate before a `;`. It often
+/// has line ends in it and at its end, and may be nothing else.
 fn text(rng: &mut Rng) -> Vec<u8> {
+    const LINES: [&[u8]; 8] = [b"\n", b"\x0c", b"\r", b"\r", b"\r\n", b"\n\r", b"\r\r", b"\r\x0c"];
     let mut content: Vec<u8> = Vec::new();
-    let most = rng.pick(&[6, 6, 60]);
+    let most = rng.pick(&[1, 6, 6, 60]);
     for _ in 0..rng.below(most) {
         let byte = if rng.once_in(2) { rng.pick(SHARP) } else { letter(rng) };
         let after_line = content.last().is_some_and(|last| TERMINATES.contains(last));
-        if !(byte == b';' && after_line) {
+        if rng.once_in(6) {
+            content.extend_from_slice(rng.pick(&LINES));
+        } else if !(byte == b';' && after_line) {
             content.push(byte);
         }
+    }
+    if rng.once_in(2) {
+        content.extend_from_slice(rng.pick(&LINES));
     }
     content
 }
@@ -163,7 +174,7 @@ fn value(rng: &mut Rng) -> Piece {
         8 | 9 => Piece::word([b"$".to_vec(), vec![letter(rng)], letters(rng, 50)].concat()),
         10 | 11 => Piece::word([b"'".to_vec(), quotable(rng, b'\''), b"'".to_vec()].concat()),
         12 | 13 => Piece::word([b"\"".to_vec(), quotable(rng, b'"'), b"\"".to_vec()].concat()),
-        _ => Piece::text(&text(rng), rng.pick(&TERMINATES)),
+        _ => Piece::text(rng),
     }
 }
 
@@ -278,13 +289,13 @@ fn pieces(rng: &mut Rng) -> Vec<Piece> {
 
 /// White space of all six bytes and comments, beginning with white space.
 fn gap(rng: &mut Rng, file: &mut Vec<u8>) {
-    file.push(white(rng));
+    file.extend_from_slice(white(rng));
     while rng.once_in(3) {
         if rng.once_in(3) {
             comment(rng, file);
-            file.push(rng.pick(&TERMINATES));
+            file.extend_from_slice(rng.pick(&LINE_ENDS));
         } else {
-            file.push(white(rng));
+            file.extend_from_slice(white(rng));
         }
     }
 }
@@ -297,7 +308,21 @@ fn comment(rng: &mut Rng, file: &mut Vec<u8>) {
     }
 }
 
-/// The tokens with white space and comments between them.
+/// The file with 13, 10 for each of its line ends.
+fn windows(file: &[u8]) -> Vec<u8> {
+    let mut lines = Vec::new();
+    for (at, &byte) in file.iter().enumerate() {
+        if !TERMINATES.contains(&byte) {
+            lines.push(byte);
+        } else if !file[at..].starts_with(b"\r\n") {
+            lines.extend_from_slice(b"\r\n");
+        }
+    }
+    lines
+}
+
+/// The tokens with white space and comments between them, at times with 13, 10
+/// as the only line end.
 fn laid_out(rng: &mut Rng, pieces: &[Piece]) -> Vec<u8> {
     let mut file = Vec::new();
     let neat = rng.once_in(4);
@@ -309,7 +334,7 @@ fn laid_out(rng: &mut Rng, pieces: &[Piece]) -> Vec<u8> {
             gap(rng, &mut file);
         }
         if piece.text_field {
-            file.push(rng.pick(&TERMINATES));
+            file.extend_from_slice(rng.pick(&LINE_ENDS));
         } else if begins_with_semicolon {
             file.push(rng.pick(&BLANKS));
         }
@@ -321,7 +346,11 @@ fn laid_out(rng: &mut Rng, pieces: &[Piece]) -> Vec<u8> {
             comment(rng, &mut file);
         }
     }
-    file
+    if rng.once_in(6) {
+        windows(&file)
+    } else {
+        file
+    }
 }
 
 /// A file that is accepted: blocks, frames, items and loops of all levels.
@@ -388,11 +417,11 @@ fn soup_piece(rng: &mut Rng) -> Piece {
         1 2 3 4 5 6 7 ? . $f $ ;b 'q' \"it's\" ''' '' C#N # DATA_b _data_ a global_";
     const FAULTS: &str = "global_ data_ _ loop_x stop_1 global_a 'open \"a' \
         _nnnnnnnnnnnnnnnnnnnnnnnnnnnnnnnn save_ccccccccccccccccccccccccccccccccc";
-    const OPEN: [&str; 2] = ["\n;open", "\n;a\n;b"];
+    const OPEN: [&str; 4] = ["\n;open", "\n;a\n;b", "\r\n;open\r", "\r\n;a\r\n;b"];
     match rng.below(60) {
         0 if rng.once_in(5) => Piece::word(rng.pick(&OPEN)),
         0 => Piece::word(one_of(rng, FAULTS)),
-        1 => Piece::text(&text(rng), rng.pick(&TERMINATES)),
+        1 => Piece::text(rng),
         2 => value(rng),
         _ => Piece::word(one_of(rng, WORDS)),
     }
@@ -429,12 +458,19 @@ pub fn bytes(rng: &mut Rng) -> Vec<u8> {
             3 => rng.pick(b"data_loopsvetg"),
             _ => rng.pick(SHARP),
         };
+        if byte == b'\n' && rng.once_in(2) {
+            file.push(b'\r');
+        }
         file.push(byte);
     }
     file
 }
 
 // ---------------------------------------------------------- large files
+
+/// A line end and a text field with the content 13, which gets 13, 10 before its
+/// closing `;` in the plain form.
+const GROWING: &[u8] = b"\n;\r\x0c;";
 
 /// Files of the largest size, of one byte more, and with plain forms there.
 pub fn largest() -> Vec<(&'static str, Vec<u8>)> {
@@ -452,12 +488,15 @@ pub fn largest() -> Vec<(&'static str, Vec<u8>)> {
         ("blanks", padded(b"", b" ", b"", most)),
         ("blanks, one more", padded(b"", b" ", b"", most + 1)),
         ("terminates", padded(b"", b"\n", b"", most)),
+        ("line ends of two bytes", padded(b"", b"\r\n", b"", most)),
         ("one word", padded(b"data_a _x ", b"v", b"", most)),
         ("one word, one more", padded(b"data_a _x ", b"v", b"", most + 1)),
         ("one word, its plain form just fits", padded(b"data_a _x ", b"v", b"", most - 1)),
         ("one word and a line end", padded(b"data_a _x ", b"v", b"\n", most)),
         ("one text field", padded(b"data_a _x\n;", b"t\n", b"\n;", most)),
         ("one text field, one more", padded(b"data_a _x\n;", b"t\n", b"\n;", most + 1)),
+        ("one text field, 13, 10", padded(b"data_a _x\r\n;", b"t\r\n", b"\r\n;", most)),
+        ("one text field, 13 alone", padded(b"data_a _x\r;", b"\r", b"\r;", most)),
         ("a text field not closed", padded(b"data_a _x\n;", b"t\n ;", b"", most)),
         ("a text field closed too near", padded(b"data_a _x\n;", b"t", b"\n;x", most)),
         ("a quoted string", padded(b"data_a _x '", b"'q", b"'", most)),
@@ -472,6 +511,15 @@ pub fn largest() -> Vec<(&'static str, Vec<u8>)> {
         (
             "words one byte over in the plain form",
             padded(b"data_a loop_ _xy ", b"; ", b"", 699_057),
+        ),
+        ("fields that grow in the plain form", padded(b"data_a loop_ _x", GROWING, b"", most)),
+        (
+            "fields that just fit in the plain form",
+            padded(b"data_a loop_ _x", GROWING, b"", 873_815),
+        ),
+        (
+            "fields one byte over in the plain form",
+            padded(b"data_a loop_ _xy", GROWING, b"", 873_816),
         ),
         ("inner packets", padded(b"data_a loop_ _x loop_ _y ", b"1 2 stop_ ", b"", most)),
         (
@@ -711,6 +759,52 @@ mod tests {
         assert!(levels[1..].iter().all(|&count| count > 10), "{levels:?}");
     }
 
+    /// A sort of contents: its name, the first of LINE_ENDS that may close them,
+    /// and whether a content is one.
+    type Sort = (&'static str, usize, fn(&[u8]) -> bool);
+
+    // 13, 10 before the closing `;` is one line end, so 10 closes no content that ends in 13
+    const SORTS: [Sort; 9] = [
+        ("empty", 0, |content| content.is_empty()),
+        ("13 alone", 1, |content| content == b"\r"),
+        ("ends in 13", 1, |content| content.ends_with(b"\r")),
+        ("ends in 13, 13", 1, |content| content.ends_with(b"\r\r")),
+        ("ends in 10", 0, |content| content.ends_with(b"\n")),
+        ("ends in 12", 0, |content| content.ends_with(b"\x0c")),
+        ("holds 13, 10", 0, |content| content.windows(2).any(|pair| pair == b"\r\n")),
+        ("holds 10, 13", 0, |content| content.windows(2).any(|pair| pair == b"\n\r")),
+        ("holds 13", 0, |content| content.windows(2).any(|pair| pair[0] == 13 && pair[1] != 10)),
+    ];
+
+    /// Which of LINE_ENDS stands before `;` at an offset.
+    fn closed_by(file: &[u8], at: usize) -> usize {
+        let closes = |end: &&[u8]| file[at..].starts_with(&[end, b";".as_slice()].concat());
+        LINE_ENDS.iter().position(closes).expect("a line end and `;`")
+    }
+
+    /// Text fields with contents of each sort are closed by each line end, and
+    /// some files have 13, 10 as their only line end.
+    #[test]
+    fn line_ends_are_varied() {
+        let mut counts = [[0u32; LINE_ENDS.len()]; SORTS.len()];
+        let mut of_windows = 0;
+        for seed in 0..3000 {
+            let file = valid(&mut Rng::new(seed));
+            of_windows += u32::from(file.contains(&b'\n') && windows(&file) == file);
+            let tokens = reference::tokens(&file).expect("a valid file splits into tokens");
+            for field in tokens.iter().filter(|token| token.kind == 11) {
+                let end = closed_by(&file, field.end);
+                for (count, (_, _, holds)) in counts.iter_mut().zip(SORTS) {
+                    count[end] += u32::from(holds(&file[field.start..field.end]));
+                }
+            }
+        }
+        for ((sort, first, _), counts) in SORTS.iter().zip(counts) {
+            assert!(counts[*first..].iter().all(|&count| count > 20), "{sort}: {counts:?}");
+        }
+        assert!(of_windows > 100, "{of_windows}");
+    }
+
     #[test]
     fn largest_files_are_as_named() {
         for (name, file) in largest() {
@@ -720,10 +814,10 @@ mod tests {
             assert_eq!(refusal == 1, over, "{name}");
             let tokens =
                 reference::tokens(&file).map(|tokens| reference::plain_form(&file, &tokens).len());
-            match name {
-                "words that just fit in the plain form" => assert_eq!(tokens, Ok(MOST_BYTES)),
-                "words one byte over in the plain form" => assert_eq!(tokens, Ok(MOST_BYTES + 1)),
-                _ => {}
+            if name.ends_with("just fit in the plain form") {
+                assert_eq!(tokens, Ok(MOST_BYTES), "{name}");
+            } else if name.ends_with("one byte over in the plain form") {
+                assert_eq!(tokens, Ok(MOST_BYTES + 1), "{name}");
             }
         }
     }

@@ -52,6 +52,15 @@ fn is_allowed(byte: u8) -> bool {
     is_white(byte) || (33..=126).contains(&byte)
 }
 
+/// The bytes of the line end at an offset, 0 if there is none.
+fn line_end(file: &[u8], at: usize) -> usize {
+    match file[at..] {
+        [13, 10, ..] => 2,
+        [byte, ..] if is_terminate(byte) => 1,
+        _ => 0,
+    }
+}
+
 /// Whether white space or the end stands at an offset.
 fn white_at(file: &[u8], at: usize) -> bool {
     at >= file.len() || is_white(file[at])
@@ -81,7 +90,7 @@ pub fn tokens(file: &[u8]) -> Result<Vec<Token>, Refusal> {
             } else {
                 word(file, at)?
             };
-            at = after(&token);
+            at = after(file, &token);
             tokens.push(token);
         }
     }
@@ -89,10 +98,10 @@ pub fn tokens(file: &[u8]) -> Result<Vec<Token>, Refusal> {
 }
 
 /// The offset after a token's last byte, its closing delimiter included.
-fn after(token: &Token) -> usize {
+fn after(file: &[u8], token: &Token) -> usize {
     match token.kind {
         9 | 10 => token.end + 1,
-        11 => token.end + 2,
+        11 => token.end + line_end(file, token.end) + 1,
         _ => token.end,
     }
 }
@@ -100,11 +109,16 @@ fn after(token: &Token) -> usize {
 fn text_field(file: &[u8], at: usize) -> Result<Token, Refusal> {
     let refusal = Refusal { number: 6, place: at };
     let start = at + 1;
-    let closes = |&end: &usize| is_terminate(file[end]) && file.get(end + 1) == Some(&b';');
+    // choice: only the line end before the closing `;` is outside the content
+    let closes = |&end: &usize| {
+        let bytes = line_end(file, end);
+        bytes > 0 && file.get(end + bytes) == Some(&b';')
+    };
     let end = (start..file.len()).find(closes).ok_or(refusal)?;
+    let token = Token { kind: 11, at, start, end };
     // choice: a closing `;` followed by another byte refuses at once
-    if white_at(file, end + 2) {
-        Ok(Token { kind: 11, at, start, end })
+    if white_at(file, after(file, &token)) {
+        Ok(token)
     } else {
         Err(refusal)
     }
@@ -443,6 +457,7 @@ pub fn plain_form(file: &[u8], tokens: &[Token]) -> Vec<u8> {
             8 => (b"$", b""),
             9 => (b"'", b"'"),
             10 => (b"\"", b"\""),
+            11 if content.ends_with(b"\r") => (b";", b"\r\n;"),
             11 => (b";", b"\n;"),
             _ => (b"", b""),
         };
@@ -641,11 +656,17 @@ mod tests {
 
     #[test]
     fn vectors_are_answered() {
-        let list = vectors(include_str!("../../vectors/base.txt"));
-        assert_eq!(list.len(), 130);
+        answer_vectors("base.txt", include_str!("../../vectors/base.txt"), 130);
+        answer_vectors("102.txt", include_str!("../../vectors/102.txt"), 30);
+    }
+
+    /// Answers the vectors of a list of so many.
+    fn answer_vectors(name: &str, list: &str, count: usize) {
+        let list = vectors(list);
+        assert_eq!(list.len(), count, "{name}");
         for vector in list {
             let (answer, tables) = read(&vector.file, ROOM);
-            let shown = format!("line {}: {}", vector.line, escaped(&vector.file));
+            let shown = format!("{name}, line {}: {}", vector.line, escaped(&vector.file));
             assert_eq!((answer.refusal, answer.place), (vector.refusal, vector.place), "{shown}");
             let Counts { tokens, sets, names, packets, values } = answer.counts();
             assert_eq!([tokens, sets, names, packets, values], vector.counts, "{shown}");
@@ -714,6 +735,51 @@ mod tests {
         assert_eq!(value_of(";b"), b";b");
         // the text field of International Tables G, 2.1.3
         assert_eq!(value_of("\\n; School of CSSE\\n  UWA\\n;"), b" School of CSSE\n  UWA");
+    }
+
+    /// Text fields, their contents and their plain forms: the line end before
+    /// the closing `;` is outside the content, any other stays in it.
+    #[test]
+    fn known_text_fields_are_closed() {
+        let known = [
+            (r";t\n;", "t", r";t\n;"),
+            (r";t\f;", "t", r";t\n;"),
+            (r";t\r;", "t", r";t\n;"),
+            (r";t\r\n;", "t", r";t\n;"),
+            (r";t\n\r;", r"t\n", r";t\n\n;"),
+            (r";t\f\n;", r"t\f", r";t\f\n;"),
+            (r";t\f\r\n;", r"t\f", r";t\f\n;"),
+            (r";t\n\r\n;", r"t\n", r";t\n\n;"),
+            (r";t\r\n\n;", r"t\r\n", r";t\r\n\n;"),
+            // contents that end in 13
+            (r";t\r\r\n;", r"t\r", r";t\r\r\n;"),
+            (r";t\r\r;", r"t\r", r";t\r\r\n;"),
+            (r";t\r\f;", r"t\r", r";t\r\r\n;"),
+            (r";t\r\n\r\r;", r"t\r\n\r", r";t\r\n\r\r\n;"),
+            (r";\r\f;", r"\r", r";\r\r\n;"),
+            (r";\r\r\n;", r"\r", r";\r\r\n;"),
+            // empty contents
+            (r";\n;", "", r";\n;"),
+            (r";\r;", "", r";\n;"),
+            (r";\r\n;", "", r";\n;"),
+            // 13, 10 and a lone 13 within a content
+            (r";a\r\nb\r\n;", r"a\r\nb", r";a\r\nb\n;"),
+            (r";a\rb\n;", r"a\rb", r";a\rb\n;"),
+            (r";a\r\n ;b\n;\r\n", r"a\r\n ;b", r";a\r\n ;b\n;"),
+        ];
+        for (field, content, plain) in known {
+            assert_eq!(escaped(&value_of(&format!(r"\r\n{field}"))), content, "{field}");
+            let file = unescaped(&format!(r"data_a _x\n{field}"));
+            let (written, _, mut out) = write(&file, ROOM, 900);
+            out.truncate(written.length as usize);
+            assert_eq!(escaped(&out), format!(r"data_a\n_x\n{plain}\n"), "{field}");
+        }
+        for open in [r";t\r\n", r";t\r", r";\r\n", r";t\r\n;u", r";t\r;u\r\n;", r";t\r\n ;"] {
+            let file = unescaped(&format!(r"data_a _x\r\n{open}"));
+            assert_eq!(answer(&file), Err((6, 11)), "{open}");
+        }
+        assert_eq!(answer(b"data_a _x 1\r\n"), Ok([3, 1, 1, 0, 1]));
+        assert_eq!(answer(b"data_a _x 'a\r\n'"), Err((5, 10)));
     }
 
     /// `data_a` and a loop of this many levels with one name each.

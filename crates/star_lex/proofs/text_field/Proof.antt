@@ -1,14 +1,26 @@
 -- `text_field` meets its contract: the field ends within the file exactly where it closes.
-use mathlib.Core.Path.{sym, _∙_, ap}
+use mathlib.Core.Path.{_≡_, sym, _∙_}
 use mathlib.Core.Bool.{true, false}
 use Prim.Native.Nat.{_+_, _≤_}
 use native.Mathlib.Omega.{arith}
 use borrow.Author.Needs.{needs}
-use lib.ListN.{length, drop}
-use Rattle.star_lex.specs.Split.{whiteNext}
+use lib.ListN.{length, getD, drop}
+use Rattle.star_text.specs.Bytes.{isTerminate}
+use Rattle.star_lex.specs.Rules.{today}
+use Rattle.star_lex.specs.Split.{closeLength}
 use Rattle.star_lex.proofs.Lexing.{field-open, field-within, field-found}
 use Rattle.star_lex.proofs.text_field.Statement.{statement}
 use Rattle.star_lex.proofs.text_field.Tie as tie
+
+abbrev start : tie.Else1 → tie.Start
+start c = c .before .before .before
+
+-- a field that ends within the file: a line end begins there, and what closes the field is of the file
+within : (c : tie.Else1)
+    → (isTerminate (getD (start c .args .file .now) (c .before .field-end .result) 0) ≡ true)
+    × (c .before .field-end .result + closeLength today (drop (c .before .field-end .result) (start c .args .file .now)) ≤ length (start c .args .file .now))
+within c =
+    field-within (start c .args .file .now) (start c .args .at) (start c .pre .0) (c .before .field-end .result) (c .before .field-end .ensures) (c .if1 .left)
 
 add-field-end : tie.Need-add-field-end
 add-field-end c = search needs
@@ -19,41 +31,37 @@ field-end-requires c κs = search needs
 returns : tie.Need-returns
 returns c =
     let start = c .before .before .before in
-    sym (field-open (start .args .file .now) (start .args .at) (start .pre .0) (sym (c .before .field-end .ensures) ∙ c .if1 .taken))
+    sym (field-open (start .args .file .now) (start .args .at) (start .pre .0) (c .before .field-end .result) (c .before .field-end .ensures) (c .if1 .taken))
 
-add-white-at : tie.Need-add-white-at
-add-white-at c =
-    let start = c .before .before .before in
-    let w : c .before .field-end .result + 2 ≤ length (start .args .file .now) = rw (c .before .field-end .ensures)
-    (field-within (start .args .file .now) (start .args .at) (start .pre .0) (λ e. c .if1 .left (c .before .field-end .ensures ∙ e))) in
-    omega arith
+line-end-length-requires : tie.Need-line-end-length-requires
+unfolding closeLength
+line-end-length-requires c κs = (omega (arith, within c .1), within c .0)
+
+add-next : tie.Need-add-next
+unfolding closeLength
+add-next c = omega (arith, within (c .before) .1, c .line-end-length .ensures)
+
+add-next-2 : tie.Need-add-next-2
+unfolding closeLength
+add-next-2 c = omega (arith, within (c .before) .1, c .line-end-length .ensures)
 
 white-at-requires : tie.Need-white-at-requires
 white-at-requires c κs = search needs
 
-add-t9 : tie.Need-add-t9
-add-t9 c = search needs
-
-add-t10 : tie.Need-add-t10
-add-t10 c =
-    let at-field-end = c .before .before .before in
-    let start = at-field-end .before .before in
-    let w : at-field-end .field-end .result + 2 ≤ length (start .args .file .now) = rw (at-field-end .field-end .ensures)
-    (field-within (start .args .file .now) (start .args .at) (start .pre .0) (λ e. c .before .before .if1 .left (at-field-end .field-end .ensures ∙ e))) in
-    omega arith
+add-t11 : tie.Need-add-t11
+add-t11 c = omega arith
 
 returns-2 : tie.Need-returns-2
 returns-2 c =
-    let at-field-end = c .before .before .before in
-    let start = at-field-end .before .before in
-    rw (at-field-end .field-end .ensures) (sym (field-found (start .args .file .now) (start .args .at) (start .pre .0) true (λ e. c .before .before .if1 .left (at-field-end .field-end .ensures ∙ e))
-    (ap (λ n. whiteNext (drop (n + 2) (start .args .file .now))) (sym (at-field-end .field-end .ensures)) ∙ sym (c .before .white-at .ensures) ∙ c .if2 .taken)))
+    let ended = c .before .before .before in
+    sym (field-found (start ended .args .file .now) (start ended .args .at) (start ended .pre .0) true (ended .before .field-end .result) (c .before .before .line-end-length .result)
+    (ended .before .field-end .ensures) (ended .if1 .left) (c .before .before .line-end-length .ensures) (sym (c .before .white-at .ensures) ∙ c .if2 .taken))
 
 returns-3 : tie.Need-returns-3
 returns-3 c =
-    let start = c .before .before .before .before .before in
-    sym (field-found (start .args .file .now) (start .args .at) (start .pre .0) false (λ e. c .before .before .if1 .left (c .before .before .before .field-end .ensures ∙ e))
-    (ap (λ n. whiteNext (drop (n + 2) (start .args .file .now))) (sym (c .before .before .before .field-end .ensures)) ∙ sym (c .before .white-at .ensures) ∙ c .if2 .left))
+    let ended = c .before .before .before in
+    sym (field-found (start ended .args .file .now) (start ended .args .at) (start ended .pre .0) false (ended .before .field-end .result) (c .before .before .line-end-length .result)
+    (ended .before .field-end .ensures) (ended .if1 .left) (c .before .before .line-end-length .ensures) (sym (c .before .white-at .ensures) ∙ c .if2 .left))
 
 pub text-field-spec : {M : Type 1} → statement M
 text-field-spec =
@@ -62,9 +70,10 @@ text-field-spec =
     add-field-end
     field-end-requires
     returns
-    add-white-at
+    line-end-length-requires
+    add-next
+    add-next-2
     white-at-requires
-    add-t9
-    add-t10
+    add-t11
     returns-2
     returns-3)

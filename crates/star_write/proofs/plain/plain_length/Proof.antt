@@ -5,7 +5,7 @@ use mathlib.Core.List.{flatMap}
 use Prim.Native.Nat.{_-_, _*_, _≤_}
 use native.Mathlib.Omega.{arith}
 use lib.ListN.{length, getD}
-use Rattle.star_lex.specs.Plain.{plainOf}
+use Rattle.star_lex.specs.Plain.{plainBy}
 use Rattle.star_lex.specs.Holds.{fileTokens}
 use Rattle.star_lex.proofs.Held.{count-small}
 use Rattle.star_write.specs.Put.{tokenOf}
@@ -15,13 +15,13 @@ use Rattle.star_write.proofs.plain.plain_length.Statement.{statement}
 use Rattle.star_write.proofs.plain.plain_length.Tie as tie
 
 abbrev Inv-loop : tie.InvT-loop
-Inv-loop file tokens count total₀ n₀ total n = (n ≤ count) × (total ≡ length (plainFirst n (fileTokens file))) × (total ≤ n * 1048585)
+Inv-loop file tokens count total₀ n₀ total n = (n ≤ count) × (total ≡ length (plainFirst n (fileTokens file))) × (total ≤ n * 1048586)
 
 abbrev μ-loop : tie.MeasureT-loop
 μ-loop file tokens count total₀ n₀ total n = count - n
 
 loop-holds : tie.Need-loop-holds Inv-loop μ-loop
-unfolding plainOf flatMap
+unfolding plainBy flatMap
 loop-holds c = (omega arith, refl, omega arith)
 
 mul-kind : tie.Need-mul-kind Inv-loop μ-loop
@@ -45,7 +45,7 @@ turn : (c : tie.After-content Inv-loop μ-loop)
 turn c = next _ _ _ (c .before .before .before .before .before .before .pre) (c .before .before .before .loop .n) (omega arith) _ (c .content .ensures .0)
 
 -- its length
-short : (c : tie.After-token-length Inv-loop μ-loop) → c .token-length .result ≤ 1048585
+short : (c : tie.After-token-length Inv-loop μ-loop) → c .token-length .result ≤ 1048586
 short c =
     let start = c .before .before .before .before .before .before .before in
     let kind = getD (start .args .tokens .now) (c .before .before .before .before .loop .n * 3) 0 in

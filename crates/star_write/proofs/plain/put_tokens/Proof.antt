@@ -6,7 +6,7 @@ use Prim.Native.Nat.{_-_, _*_, _≤_}
 use native.Mathlib.Omega.{arith}
 use borrow.Rule.Slice.PartMut.{same-len-mid}
 use lib.ListN.{length, getD, length-take, length-drop}
-use Rattle.star_lex.specs.Plain.{plainOf}
+use Rattle.star_lex.specs.Plain.{plainBy}
 use Rattle.star_lex.specs.Holds.{fileTokens}
 use Rattle.star_write.specs.Put.{Filled}
 use Rattle.star_write.proofs.Putting.{fill-none, fill-rest}
@@ -22,7 +22,7 @@ abbrev μ-loop : tie.MeasureT-loop
 μ-loop file tokens count out₀ at₀ n₀ out at n = count - n
 
 loop-holds : tie.Need-loop-holds Inv-loop μ-loop
-unfolding plainOf flatMap
+unfolding plainBy flatMap
 loop-holds c = (omega arith, fill-none _, refl)
 
 mul-kind : tie.Need-mul-kind Inv-loop μ-loop

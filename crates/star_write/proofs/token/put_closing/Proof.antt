@@ -5,7 +5,9 @@ use native.Mathlib.Nat.{sub-zero}
 use native.Mathlib.Omega.{arith}
 use borrow.Author.Needs.{needs}
 use lib.ListN.{length, take}
+use Rattle.star_lex.specs.Rules.{today}
 use Rattle.star_lex.specs.Plain.{closing}
+use Rattle.star_write.proofs.Lengths.{short-closing}
 use Rattle.star_write.proofs.Putting.{put-same}
 use Rattle.star_write.proofs.token.put_closing.Statement.{statement}
 use Rattle.star_write.proofs.token.put_closing.Tie as tie
@@ -23,14 +25,16 @@ part-put-bytes-start : tie.Need-part-put-bytes-start
 part-put-bytes-start c = omega arith
 
 part-put-bytes-end : tie.Need-part-put-bytes-end
-part-put-bytes-end c = omega (arith, c .before .closing-length .ensures, c .before .before .before .closing-bytes .ensures .1)
+part-put-bytes-end c =
+    let start = c .before .before .before .before .before .before in
+    omega (arith, c .before .closing-length .ensures, short-closing (start .args .kind) (start .args .content .now))
 
 -- the bytes that are put
 put : (c : tie.After-put-bytes-arg2)
-    → take (c .before .before .closing-length .result - 0) (c .before .before .before .before .closing-bytes .result) ≡ closing (c .before .before .before .before .before .before .before .args .kind) (c .before .before .before .before .before .before .before .args .content .now)
+    → take (c .before .before .closing-length .result - 0) (c .before .before .before .before .closing-bytes .result) ≡ closing today (c .before .before .before .before .before .before .before .args .kind) (c .before .before .before .before .before .before .before .args .content .now)
 put c =
     ap (λ n. take n (c .before .before .before .before .closing-bytes .result)) (sub-zero _ ∙ c .before .before .closing-length .ensures)
-    ∙ c .before .before .before .before .closing-bytes .ensures .0
+    ∙ c .before .before .before .before .closing-bytes .ensures
 
 put-bytes-requires : tie.Need-put-bytes-requires
 put-bytes-requires c κs = omega (arith, ap length (put c), c .before .before .before .before .before .before .before .pre)
