@@ -1,6 +1,7 @@
 -- The demands hold: each sentence is proved by the crate that states it.
 use mathlib.Core.Path.{refl}
 use Rattle.star_lex.proofs.NoPair.{no-pair-as-before}
+use Rattle.star_lex.proofs.Windows.{windows-splits}
 use Rattle.star_read.proofs.Usable.{today-usable}
 use Rattle.star_read.proofs.Demand1.{read-answers}
 use Rattle.star_read.proofs.Demand3.{accepted-exactly, one-reading, rows-of-reading, place-of-refusal}
@@ -42,4 +43,4 @@ pub numbers : Numbers
 numbers = (number-exact, number-pieces, whole-exact, power-exact, rounded-once, floats-finite, numbers-known, numbers-in-order)
 
 pub line-ends : LineEnds
-line-ends = (refl, no-pair-as-before, windows-reads)
+line-ends = (refl, no-pair-as-before, windows-splits, windows-reads)

@@ -3,7 +3,7 @@
 use mathlib.Core.Path.{_≡_}
 use mathlib.Core.Bool.{true}
 use Rattle.star_lex.specs.Rules.{today}
-use Rattle.star_lex.specs.Demands.{NoPairAsBefore}
+use Rattle.star_lex.specs.Demands.{NoPairAsBefore, WindowsSplits}
 use Rattle.star_read.specs.Demands.{Usable, AcceptedExactly, OneReading, RowsOfReading, PlaceOfRefusal, RefusalNumber, NumbersExclude, ReadingSettled, OneOutcome, ReadAnswers, WindowsReads}
 use Rattle.star_find.specs.Demands.{LookupByName, LookupBlock, LookupFrame, ValuesInOrder, SpanPart, LookupsAnswer, ValuesAnswer}
 use Rattle.star_number.specs.Demands.{NumberExact, NumberPieces, WholeExact, PowerExact, RoundedOnce, FloatsFinite, NumbersKnown, NumbersInOrder, NumbersAnswer}
@@ -30,7 +30,8 @@ Demand3 = Usable today × AcceptedExactly × OneReading × RowsOfReading × Plac
 abbrev pub Numbers : Type 0
 Numbers = NumberExact × NumberPieces × WholeExact × PowerExact × RoundedOnce × FloatsFinite × NumbersKnown × NumbersInOrder
 
--- specification 2.2: a file in which no 13 is directly followed by 10 splits as it did when each of 10, 12 and 13 was one line end by itself; and as Windows writes it,
--- 13, 10 for each 10, it is read with the same rows and the same values but for the line ends within text fields
+-- specification 14.10: today's rules have 13, 10 as one line end; a file in which no 13 is directly followed by 10 splits as it did when each of 10, 12 and 13 was one by
+-- itself; and with 13, 10 for each 10 it splits into the same kinds and contents but for the line ends within text fields and, once accepted, is accepted within the size
+-- limit and with room, with the same rows of tables 2 to 5
 abbrev pub LineEnds : Type 0
-LineEnds = (today .pairs ≡ true) × NoPairAsBefore × WindowsReads
+LineEnds = (today .pairs ≡ true) × NoPairAsBefore × WindowsSplits × WindowsReads

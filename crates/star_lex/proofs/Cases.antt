@@ -3,7 +3,7 @@ use mathlib.Core.Path.{_≡_, refl}
 use mathlib.Core.List.{List}
 use mathlib.Core.Option.{Option, none, some}
 use Prim.Native.Nat.{ℕ}
-pub use Rattle.star_text.proofs.Cases.{impossible, cond-cases}
+pub use Rattle.star_text.proofs.Cases.{impossible, cond-cases, cond-by}
 use Rattle.star_lex.specs.Split.{Lexeme, either}
 
 pub either-cases {κ} : {P : Type κ} (o : Option (List ℕ)) (f : List ℕ → Lexeme) (other z : Lexeme) → either o f other ≡ z

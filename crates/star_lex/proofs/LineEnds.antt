@@ -11,6 +11,7 @@ use Rattle.star_text.specs.Bytes.{isTerminate}
 use Rattle.star_lex.specs.Rules.{Rules}
 use Rattle.star_lex.specs.Split.{starts, lineEnd, closes, closeLength}
 use Rattle.star_lex.specs.Plain.{ends}
+use Rattle.star_lex.proofs.Cases.{cond-by}
 
 pub terminate-not-semicolon : (z : ℕ) → isTerminate z ≡ true → eqb z 59 ≡ false
 unfolding isTerminate
@@ -68,20 +69,13 @@ module _ (rules : Rules) where
   pub line-end-short : (bs : List ℕ) → lineEnd rules bs ≤ 2
   unfolding lineEnd
   line-end-short [] = omega arith
-  line-end-short (b ∷ bs) = go (rules .pairs && (eqb b 13 && starts 10 bs)) (isTerminate b)
-    where
-      go : (p t : Bool) → cond p 2 (cond t 1 0) ≤ 2
-      go true t = omega arith
-      go false true = omega arith
-      go false false = omega arith
+  line-end-short (b ∷ bs) =
+      cond-by (λ n. n ≤ 2) (rules .pairs && (eqb b 13 && starts 10 bs)) _ _ (λ e. omega arith)
+      (λ e. cond-by (λ n. n ≤ 2) (isTerminate b) _ _ (λ f. omega arith) (λ f. omega arith))
 
   pub line-end-some : (b : ℕ) (bs : List ℕ) → isTerminate b ≡ true → 1 ≤ lineEnd rules (b ∷ bs)
   unfolding lineEnd
-  line-end-some b bs e = rw e (go (rules .pairs && (eqb b 13 && starts 10 bs)))
-    where
-      go : (p : Bool) → 1 ≤ cond p 2 1
-      go true = omega arith
-      go false = omega arith
+  line-end-some b bs e = rw e (cond-by (λ n. 1 ≤ n) (rules .pairs && (eqb b 13 && starts 10 bs)) _ _ (λ p. omega arith) (λ p. omega arith))
 
   -- a text field closes where the line ends before `;`
   pub closes-not : (b : ℕ) (bs : List ℕ) → isTerminate b ≡ false → closes rules (b ∷ bs) ≡ false
@@ -91,25 +85,24 @@ module _ (rules : Rules) where
   pub closes-first : (b : ℕ) (bs : List ℕ) → closes rules (b ∷ bs) ≡ true → isTerminate b ≡ true
   closes-first b bs e = not-eq-not .0 (λ f. true≢false (sym e ∙ closes-not b bs f))
 
+  -- a byte that makes no pair with the next closes a field where it ends a line and `;` follows
+  pub closes-lone : (b : ℕ) (bs : List ℕ) → (rules .pairs && (eqb b 13 && starts 10 bs)) ≡ false → closes rules (b ∷ bs) ≡ (isTerminate b && starts 59 bs)
+  unfolding closes lineEnd
+  closes-lone b bs e = go (isTerminate b) refl
+    where
+      go : (t : Bool) → isTerminate b ≡ t → closes rules (b ∷ bs) ≡ (t && starts 59 bs)
+      go true f = rw (e, f)
+      go false f = rw (e, f)
+
   -- of two bytes and those after them
   pub closes-two : (b c : ℕ) (s : List ℕ)
       → closes rules (b ∷ c ∷ s) ≡ cond (rules .pairs && (eqb b 13 && eqb c 10)) (starts 59 s) (isTerminate b && eqb c 59)
   unfolding closes lineEnd starts
-  closes-two b c s = go (rules .pairs && (eqb b 13 && eqb c 10)) (isTerminate b)
+  closes-two b c s = go (rules .pairs && (eqb b 13 && eqb c 10)) refl
     where
-      go : (p t : Bool) → (leb 1 (cond p 2 (cond t 1 0)) && starts 59 (drop (cond p 2 (cond t 1 0)) (b ∷ c ∷ s))) ≡ cond p (starts 59 s) (t && eqb c 59)
-      go true t = refl
-      go false true = refl
-      go false false = refl
-
-  -- a byte that makes no pair with the next closes a field where it ends a line and `;` follows
-  pub closes-lone : (b : ℕ) (bs : List ℕ) → (rules .pairs && (eqb b 13 && starts 10 bs)) ≡ false → closes rules (b ∷ bs) ≡ (isTerminate b && starts 59 bs)
-  unfolding closes lineEnd
-  closes-lone b bs e = rw e (go (isTerminate b))
-    where
-      go : (t : Bool) → (leb 1 (cond t 1 0) && starts 59 (drop (cond t 1 0) (b ∷ bs))) ≡ (t && starts 59 bs)
-      go true = refl
-      go false = refl
+      go : (p : Bool) → (rules .pairs && (eqb b 13 && eqb c 10)) ≡ p → closes rules (b ∷ c ∷ s) ≡ cond p (starts 59 s) (isTerminate b && eqb c 59)
+      go true e = rw e
+      go false e = closes-lone b (c ∷ s) e
 
   -- before bytes that begin with no `;`, it closes only where it did
   pub closes-last : (b : ℕ) (z : List ℕ) → starts 59 z ≡ false → (rules .pairs && (eqb b 13 && starts 10 z)) ≡ false → closes rules (b ∷ z) ≡ false

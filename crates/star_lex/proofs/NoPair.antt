@@ -20,6 +20,11 @@ unfolding either
 either-same none f g x y h e = e
 either-same (some c) f g x y h e = h c
 
+-- the first two bytes are no pair, and there is none among those after the first
+pub noPair-head : (b : ℕ) (bs : List ℕ) → noPair (b ∷ bs) ≡ true → (eqb b 13 && starts 10 bs) ≡ false
+unfolding noPair
+noPair-head b bs e = not-true (eqb b 13 && starts 10 bs) (both (not (eqb b 13 && starts 10 bs)) (noPair bs) e .0)
+
 pub noPair-tail : (b : ℕ) (bs : List ℕ) → noPair (b ∷ bs) ≡ true → noPair bs ≡ true
 unfolding noPair
 noPair-tail b bs e = both (not (eqb b 13 && starts 10 bs)) (noPair bs) e .1
@@ -57,9 +62,9 @@ module _ (rules : Rules) where
       (either-same (after (95 ∷ []) w) _ _ _ _ (name-same more) refl)))))
 
   lineEnd-same : (bs : List ℕ) → noPair bs ≡ true → lineEnd rules bs ≡ lineEnd (unpaired rules) bs
-  unfolding lineEnd noPair
+  unfolding lineEnd
   lineEnd-same [] e = refl
-  lineEnd-same (b ∷ bs) e = rw (not-true (eqb b 13 && starts 10 bs) (both (not (eqb b 13 && starts 10 bs)) (noPair bs) e .0), and-false (rules .pairs))
+  lineEnd-same (b ∷ bs) e = rw (noPair-head b bs e, and-false (rules .pairs))
 
   field-same : (bs : List ℕ) → noPair bs ≡ true → field rules bs ≡ field (unpaired rules) bs
   unfolding field closes

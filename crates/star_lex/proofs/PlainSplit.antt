@@ -1,7 +1,7 @@
 -- The plain form of well-formed tokens splits into them again: at a token's first byte the rule of its kind is the first that fits, and it
 -- stops at the token's last byte; the byte 10 after it ends the line, so that the next token begins at a line's start.
 use mathlib.Core.Path.{_≡_, refl, sym, _∙_, ap}
-use mathlib.Core.Bool.{Bool, true, false, cond, not, _&&_}
+use mathlib.Core.Bool.{Bool, true, false, cond, not, _&&_, and-true, and-false}
 use mathlib.Core.List.{List, [], _∷_, _++_, map, flatMap, append-assoc, append-nil}
 use mathlib.Core.Option.{none, some}
 use Prim.Native.Nat.{ℕ, suc, _+_, _≤_}
@@ -20,6 +20,8 @@ use Rattle.star_lex.specs.Split.{token, after, starts, whiteNext, quoted
 use Rattle.star_lex.specs.Plain.{ends, newline, closing, indent, plainToken, plainBy, plainOf}
 use Rattle.star_lex.proofs.Formed.{FormedBy, WellFormed, Ordinary, quotable, fieldable, block, frame, frameEnd, loop, stop, name, word, reference, single, double, text, global}
 use Rattle.star_text.proofs.Bytes.{eqb-comm, printable-not-white, printable-allowed, not-white-not-terminate, all-head, all-tail, all-append, all-cond, all-implies, run-append, run-all}
+use Rattle.star_text.proofs.Cases.{both}
+use Rattle.star_lex.proofs.Cases.{cond-by}
 use Rattle.star_lex.proofs.Delimited.{quoted-append, field-append}
 
 -- the split goes over bytes that belong to a lexeme already read
@@ -165,31 +167,24 @@ reads-double rules c e = record {
 -- what the writer puts after a text field's content closes it, and makes no pair with the content's last byte
 newline-closes : (rules : Rules) (c rest : List ℕ) → closes rules (newline rules c ++ 59 ∷ rest) ≡ true
 unfolding newline closes lineEnd starts isTerminate
-newline-closes rules c rest = go (rules .pairs) (ends 13 c) refl
-  where
-    go : (p e : Bool) → rules .pairs ≡ p → closes rules (cond (p && e) (13 ∷ 10 ∷ []) (10 ∷ []) ++ 59 ∷ rest) ≡ true
-    go true true q = rw q
-    go true false q = rw q
-    go false e q = rw q
+newline-closes rules c rest =
+    cond-by (λ z. closes rules (z ++ 59 ∷ rest) ≡ true) (rules .pairs && ends 13 c) _ _
+    (λ e. rw (both (rules .pairs) (ends 13 c) e .0))
+    (λ e. rw (and-false (rules .pairs)))
 
 newline-apart : (rules : Rules) (c rest : List ℕ) → (rules .pairs && (ends 13 c && starts 10 (newline rules c ++ rest))) ≡ false
 unfolding newline starts
-newline-apart rules c rest = go (rules .pairs) (ends 13 c)
-  where
-    go : (p e : Bool) → (p && (e && starts 10 (cond (p && e) (13 ∷ 10 ∷ []) (10 ∷ []) ++ rest))) ≡ false
-    go true true = refl
-    go true false = refl
-    go false e = refl
+newline-apart rules c rest =
+    cond-by (λ z. (rules .pairs && (ends 13 c && starts 10 (z ++ rest))) ≡ false) (rules .pairs && ends 13 c) _ _
+    (λ e. ap (λ t. rules .pairs && t) (and-false (ends 13 c)) ∙ and-false (rules .pairs))
+    (λ e. rw (and-true (ends 13 c), e))
 
 newline-length : (rules : Rules) (c rest : List ℕ) → closeLength rules (newline rules c ++ 59 ∷ rest) ≡ length (newline rules c ++ 59 ∷ [])
 unfolding newline closeLength lineEnd starts isTerminate
-newline-length rules c rest = go (rules .pairs) (ends 13 c) refl
-  where
-    go : (p e : Bool) → rules .pairs ≡ p
-        → closeLength rules (cond (p && e) (13 ∷ 10 ∷ []) (10 ∷ []) ++ 59 ∷ rest) ≡ length {A = ℕ} (cond (p && e) (13 ∷ 10 ∷ []) (10 ∷ []) ++ 59 ∷ [])
-    go true true q = rw q
-    go true false q = rw q
-    go false e q = rw q
+newline-length rules c rest =
+    cond-by (λ z. closeLength rules (z ++ 59 ∷ rest) ≡ length (z ++ 59 ∷ [])) (rules .pairs && ends 13 c) _ _
+    (λ e. rw (both (rules .pairs) (ends 13 c) e .0))
+    (λ e. rw (and-false (rules .pairs)))
 
 fieldLexeme-append : (rules : Rules) (c rest : List ℕ) → fieldable rules c ≡ true
     → fieldLexeme rules (field rules ((c ++ (newline rules c ++ 59 ∷ [])) ++ 10 ∷ rest)) ((c ++ (newline rules c ++ 59 ∷ [])) ++ 10 ∷ rest)
@@ -288,11 +283,7 @@ allowed-opening kind = search (all-cond isAllowed) depth 8
 
 allowed-newline : (rules : Rules) (content : List ℕ) → all isAllowed (newline rules content ++ 59 ∷ []) ≡ true
 unfolding newline all isAllowed
-allowed-newline rules content = go (rules .pairs && ends 13 content)
-  where
-    go : (t : Bool) → all isAllowed (cond t (13 ∷ 10 ∷ []) (10 ∷ []) ++ 59 ∷ []) ≡ true
-    go true = refl
-    go false = refl
+allowed-newline rules content = cond-by (λ z. all isAllowed (z ++ 59 ∷ []) ≡ true) (rules .pairs && ends 13 content) _ _ (λ e. refl) (λ e. refl)
 
 allowed-closing : (rules : Rules) (kind : ℕ) (content : List ℕ) → all isAllowed (closing rules kind content) ≡ true
 unfolding closing all isAllowed

@@ -1,6 +1,6 @@
 -- The split, seen from a place of the file: the lexeme that stands there, and the split from behind it. A lexeme lies within the file.
 use mathlib.Core.Path.{_≡_, refl, sym, _∙_, ap, subst}
-use mathlib.Core.Bool.{Bool, true, false, cond, not, _&&_, or-true}
+use mathlib.Core.Bool.{Bool, true, false, not, _&&_, or-true}
 use mathlib.Core.List.{List, [], _∷_, _++_}
 use mathlib.Core.Option.{Option, none, some}
 use Prim.Native.Nat.{ℕ, zero, suc, _+_, _-_, _≤_, _<_, zero-le}
@@ -21,7 +21,7 @@ use Rattle.star_text.specs.Outcome.{refused, accepted, then}
 use Rattle.star_lex.specs.Split.{Lexeme, gap, token, faulty, Split, whiteNext, quoted, closeLength, field, quotedLexeme, fieldLexeme, wordLexeme, wordFrom, lexeme, moreOf, before, enter, split}
 use Rattle.star_lex.specs.Answer.{scannedAt}
 use Rattle.star_lex.specs.declared.Scanned.the-variants.{Gap, Token as FoundToken, Fault}
-use Rattle.star_lex.proofs.Cases.{impossible}
+use Rattle.star_lex.proofs.Cases.{impossible, cond-by}
 use Rattle.star_lex.proofs.LineEnds.{closes-within}
 use Rattle.star_lex.proofs.Delimited.{quoted-some, field-some}
 use Rattle.star_lex.proofs.Lexing.{Shaped, word-shaped}
@@ -86,10 +86,6 @@ Within size (gap more) = more ≤ size
 Within size (token more t) = (more ≤ size) × (length (opening (t .kind)) + length (t .content) ≤ suc more)
 Within size (faulty n) = (3 ≤ n) × (n ≤ 6)
 
-cond-within : (size : ℕ) (t : Bool) (x y : Lexeme) → (t ≡ true → Within size x) → (t ≡ false → Within size y) → Within size (cond t x y)
-cond-within size true x y f g = f refl
-cond-within size false x y f g = g refl
-
 field-within : (bs : List ℕ) (o : Option (List ℕ)) → field today bs ≡ o → Within (length bs) (fieldLexeme today o bs)
 unfolding fieldLexeme opening
 field-within bs none e = (omega arith, omega arith)
@@ -98,7 +94,7 @@ field-within bs (some c) e =
     let n : length bs ≡ length c + length rest = simp length-append at (ap length s) in
     let w = closes-within today rest u in
     let d : drop (length c) bs ≡ rest = ap (drop (length c)) s ∙ drop-append-seam c rest in
-    rw d (cond-within (length bs) (whiteNext (drop (length c + closeLength today rest) bs)) _ _ (λ q. (omega arith, omega arith)) (λ q. (omega arith, omega arith)))
+    rw d (cond-by (Within (length bs)) (whiteNext (drop (length c + closeLength today rest) bs)) _ _ (λ q. (omega arith, omega arith)) (λ q. (omega arith, omega arith)))
 
 quoted-within : (q kind : ℕ) (bs : List ℕ) (o : Option (List ℕ)) → isWhite q ≡ false → length (opening kind) ≡ 1 → quoted q bs ≡ o
     → Within (length bs) (quotedLexeme kind o)
@@ -127,11 +123,11 @@ word-within b bs = run-within _ b bs
 pub lexeme-within : (line : Bool) (b : ℕ) (bs : List ℕ) → Within (length bs) (lexeme today line b bs)
 unfolding lexeme opening isWhite isBlank isTerminate
 lexeme-within line b bs =
-    cond-within n (isWhite b) _ _ (λ e. zero-le)
-    (λ e. cond-within n (eqb b 35) _ _ (λ e. run-length (λ c. not (isTerminate c)) bs)
-    (λ e. cond-within n (line && eqb b 59) _ _ (λ e. field-within bs (field today bs) refl)
-    (λ e. cond-within n (eqb b 39) _ _ (λ e. quoted-within 39 9 bs (quoted 39 bs) refl refl refl)
-    (λ e. cond-within n (eqb b 34) _ _ (λ e. quoted-within 34 10 bs (quoted 34 bs) refl refl refl) (λ e. word-within b bs)))))
+    cond-by (Within n) (isWhite b) _ _ (λ e. zero-le)
+    (λ e. cond-by (Within n) (eqb b 35) _ _ (λ e. run-length (λ c. not (isTerminate c)) bs)
+    (λ e. cond-by (Within n) (line && eqb b 59) _ _ (λ e. field-within bs (field today bs) refl)
+    (λ e. cond-by (Within n) (eqb b 39) _ _ (λ e. quoted-within 39 9 bs (quoted 39 bs) refl refl refl)
+    (λ e. cond-by (Within n) (eqb b 34) _ _ (λ e. quoted-within 34 10 bs (quoted 34 bs) refl refl refl) (λ e. word-within b bs)))))
   where
     n : ℕ
     n = length bs

@@ -20,30 +20,26 @@ use Rattle.star_lex.specs.Tokens.{Token, Placed}
 use Rattle.star_lex.specs.Split.{Lexeme, gap, token, faulty, starts, whiteNext, quoted, lineEnd, closes, closeLength, field, wordLexeme, wordFrom, quotedLexeme, fieldLexeme, lexeme, moreOf, before, enter, split, tokensBy}
 use Rattle.star_lex.specs.Demands.{noPair, windows, windowsToken, WindowsSplits}
 use Rattle.star_lex.proofs.Formed.{startsWhite, quotable}
-use Rattle.star_lex.proofs.Cases.{impossible}
+use Rattle.star_lex.proofs.Cases.{impossible, cond-by}
 use Rattle.star_lex.proofs.LineEnds.{closes-two, closes-lone}
 use Rattle.star_lex.proofs.Delimited.{quoted-some, field-some}
-use Rattle.star_lex.proofs.NoPair.{noPair-tail, noPair-drop}
+use Rattle.star_lex.proofs.NoPair.{noPair-head, noPair-tail, noPair-drop}
 use Rattle.star_lex.proofs.Steps.{Steps, ends, within, passes, takes, accepted-steps, accepted-allowed}
 use Rattle.star_lex.proofs.Bound.{More, word-more}
 
 -- by the first byte: 10, or another that stays
 windows-cases {ℓ} : (b : ℕ) (bs : List ℕ) (P : List ℕ → Type ℓ) → (b ≡ 10 → P (13 ∷ 10 ∷ windows bs)) → (eqb b 10 ≡ false → P (b ∷ windows bs)) → P (windows (b ∷ bs))
 unfolding windows
-windows-cases b bs P f g = go (eqb b 10) refl
-  where
-    go : (t : Bool) → eqb b 10 ≡ t → P (cond t (13 ∷ 10 ∷ windows bs) (b ∷ windows bs))
-    go true e = f (eqb-true b 10 e)
-    go false e = g e
+windows-cases b bs P f g = cond-by P (eqb b 10) _ _ (λ e. f (eqb-true b 10 e)) g
 
 windows-append : (xs ys : List ℕ) → windows (xs ++ ys) ≡ windows xs ++ windows ys
 unfolding windows
 windows-append [] ys = refl
-windows-append (x ∷ xs) ys = rw (windows-append xs ys) (go (eqb x 10))
+windows-append (x ∷ xs) ys = go (eqb x 10) refl (windows-append xs ys)
   where
-    go : (t : Bool) → cond t (13 ∷ 10 ∷ (windows xs ++ windows ys)) (x ∷ (windows xs ++ windows ys)) ≡ cond t (13 ∷ 10 ∷ windows xs) (x ∷ windows xs) ++ windows ys
-    go true = refl
-    go false = refl
+    go : (t : Bool) → eqb x 10 ≡ t → windows (xs ++ ys) ≡ windows xs ++ windows ys → windows (x ∷ (xs ++ ys)) ≡ windows (x ∷ xs) ++ windows ys
+    go true e h = rw (e, h)
+    go false e h = rw (e, h)
 
 -- no pair is made
 windows-starts-10 : (bs : List ℕ) → starts 10 (windows bs) ≡ false
@@ -189,14 +185,14 @@ module _ (rules : Rules) (pairs : rules .pairs ≡ true) where
   closes-pair : (bs : List ℕ) → closes rules (13 ∷ 10 ∷ bs) ≡ starts 59 bs
   closes-pair bs = closes-two rules 13 10 bs ∙ rw pairs
 
-  closes-other : (b : ℕ) (bs : List ℕ) → not (eqb b 13 && starts 10 bs) ≡ true → closes rules (b ∷ windows bs) ≡ closes rules (b ∷ bs)
+  closes-other : (b : ℕ) (bs : List ℕ) → (eqb b 13 && starts 10 bs) ≡ false → closes rules (b ∷ windows bs) ≡ closes rules (b ∷ bs)
   closes-other b bs n =
       closes-lone rules b (windows bs) (rw (windows-starts-10 bs, and-false (eqb b 13), and-false (rules .pairs)))
       ∙ ap (λ s. isTerminate b && s) (windows-starts-59 bs)
-      ∙ sym (closes-lone rules b bs (rw (not-true (eqb b 13 && starts 10 bs) n, and-false (rules .pairs))))
+      ∙ sym (closes-lone rules b bs (rw (n, and-false (rules .pairs))))
 
   field-windows : (bs : List ℕ) → noPair bs ≡ true → field rules (windows bs) ≡ Option·map windows (field rules bs)
-  unfolding windows field noPair
+  unfolding windows field
   field-windows [] e = refl
   field-windows (b ∷ bs) e =
       windows-cases b bs (λ ws. field rules ws ≡ Option·map windows (field rules (b ∷ bs)))
@@ -204,7 +200,7 @@ module _ (rules : Rules) (pairs : rules .pairs ≡ true) where
       rw (z, closes-pair (windows bs), closes-ten (windows bs), closes-ten bs, windows-starts-59 bs, field-windows bs (noPair-tail b bs e))
       (content-ten (starts 59 bs) (field rules bs)))
       (λ z.
-      rw (closes-other b bs (both (not (eqb b 13 && starts 10 bs)) (noPair bs) e .0), field-windows bs (noPair-tail b bs e))
+      rw (closes-other b bs (noPair-head b bs e), field-windows bs (noPair-tail b bs e))
       (content-other b z (closes rules (b ∷ bs)) (field rules bs)))
 
   close-two : (b c : ℕ) (r : List ℕ) → (rules .pairs && (eqb b 13 && eqb c 10)) ≡ false → isTerminate b ≡ true → c ≡ 59
@@ -217,11 +213,11 @@ module _ (rules : Rules) (pairs : rules .pairs ≡ true) where
 
   -- what closes a field
   close-windows : (rest : List ℕ) → noPair rest ≡ true → closes rules rest ≡ true → closeLength rules (windows rest) ≡ length (windows (take (closeLength rules rest) rest))
-  unfolding closes lineEnd starts noPair
+  unfolding closes lineEnd starts
   close-windows [] e u = absurd (true≢false (sym u))
   close-windows (b ∷ []) e u = absurd (true≢false (sym u ∙ closes-lone rules b [] (rw (and-false (eqb b 13), and-false (rules .pairs))) ∙ and-false (isTerminate b)))
   close-windows (b ∷ c ∷ r) e u =
-      let n : (rules .pairs && (eqb b 13 && eqb c 10)) ≡ false = rw (not-true (eqb b 13 && eqb c 10) (both (not (eqb b 13 && eqb c 10)) (noPair (c ∷ r)) e .0), and-false (rules .pairs)) in
+      let n : (rules .pairs && (eqb b 13 && eqb c 10)) ≡ false = rw (noPair-head b (c ∷ r) e, and-false (rules .pairs)) in
       let t : (isTerminate b ≡ true) × (eqb c 59 ≡ true) = both (isTerminate b) (eqb c 59) (sym (closes-lone rules b (c ∷ r) n) ∙ u) in
       close-two b c r n (t .0) (eqb-true c 59 (t .1))
 
@@ -262,11 +258,11 @@ module _ (rules : Rules) (pairs : rules .pairs ≡ true) where
   inside-windows : (skip : ℕ) (line : Bool) (from b : ℕ) (bs : List ℕ) (ps : List Placed) → ((next : ℕ) → Splits (length (windows (take skip bs))) false next (windows bs) ps)
       → Splits (length (windows (b ∷ take skip bs))) line from (windows (b ∷ bs)) ps
   unfolding windows split
-  inside-windows skip line from b bs ps rest = go (eqb b 10)
+  inside-windows skip line from b bs ps rest = go (eqb b 10) refl
     where
-      go : (t : Bool) → Splits (length {A = ℕ} (cond t (13 ∷ 10 ∷ windows (take skip bs)) (b ∷ windows (take skip bs)))) line from (cond t (13 ∷ 10 ∷ windows bs) (b ∷ windows bs)) ps
-      go true = rest (suc (suc from))
-      go false = rest (suc from)
+      go : (t : Bool) → eqb b 10 ≡ t → Splits (length (windows (b ∷ take skip bs))) line from (windows (b ∷ bs)) ps
+      go true e = rw e (rest (suc (suc from)))
+      go false e = rw e (rest (suc from))
 
   gap-step : (line : Bool) (from b : ℕ) (bs : List ℕ) (ps : List Placed) (more : ℕ) → noPair bs ≡ true → lexeme rules line b bs ≡ gap more
       → ((next : ℕ) → Splits (length (windows (take more bs))) (isTerminate b) next (windows bs) ps) → Splits 0 line from (windows (b ∷ bs)) ps

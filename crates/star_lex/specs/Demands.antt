@@ -1,4 +1,4 @@
--- What is said of the split by the line ends of 2.2: statements alone. Believed; star's Demands cites them.
+-- What is said of the split by the line ends of 2.2: statements alone. Believed; star's Demands and star_read's cite them.
 use mathlib.Core.Path.{_≡_}
 use mathlib.Core.Bool.{Bool, true, cond, not, _&&_}
 use mathlib.Core.List.{List, [], _∷_, map}

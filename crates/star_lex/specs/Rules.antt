@@ -1,4 +1,4 @@
--- The rules that requests vary, in one record. Believed. The split (specs/Split.antt), the trees, machine and theorems of star_grammar are for every such
+-- The rules that requests vary, in one record. Believed. The split (specs/Split.antt), the plain form, the trees, machine and theorems of star_grammar are for every such
 -- record; a reading has today's, which star_parse, star_read and what stands on them cite.
 use mathlib.Core.Bool.{Bool, true, false}
 use Prim.Native.Nat.{ℕ}

@@ -12,6 +12,11 @@ pub cond-cases {ℓ κ} : {A : Type ℓ} {P : Type κ} (t : Bool) (x y z : A) �
 cond-cases true x y z e f g = f refl e
 cond-cases false x y z e f g = g refl e
 
+-- what holds of either choice where it is made
+pub cond-by {ℓ κ} : {A : Type ℓ} (P : A → Type κ) (t : Bool) (x y : A) → (t ≡ true → P x) → (t ≡ false → P y) → P (cond t x y)
+cond-by P true x y f g = f refl
+cond-by P false x y f g = g refl
+
 -- both of two tests
 pub both : (s t : Bool) → (s && t) ≡ true → (s ≡ true) × (t ≡ true)
 both true true e = (refl, refl)

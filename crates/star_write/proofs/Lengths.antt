@@ -7,6 +7,7 @@ use native.Mathlib.Omega.{arith}
 use borrow.Author.Tests.{leb-true}
 use lib.Dec.{leb}
 use lib.ListN.{length, length-append}
+use Rattle.star_text.proofs.Cases.{cond-by}
 use Rattle.star_lex.specs.Rules.{today}
 use Rattle.star_lex.specs.Tokens.{Token, opening, dataWord, saveWord}
 use Rattle.star_lex.specs.Plain.{ends, newline, closing, indent, plainToken}
@@ -22,11 +23,7 @@ short-opening kind = leb-true _ _ (search short-cond depth 8)
 
 short-newline : (content : List ℕ) → leb (length (newline today content ++ 59 ∷ [])) 3 ≡ true
 unfolding newline
-short-newline content = go (ends 13 content)
-  where
-    go : (t : Bool) → leb (length {A = ℕ} (cond t (13 ∷ 10 ∷ []) (10 ∷ []) ++ 59 ∷ [])) 3 ≡ true
-    go true = refl
-    go false = refl
+short-newline content = cond-by (λ (z : List ℕ). leb (length (z ++ 59 ∷ [])) 3 ≡ true) (ends 13 content) _ _ (λ e. refl) (λ e. refl)
 
 pub short-closing : (kind : ℕ) (content : List ℕ) → length (closing today kind content) ≤ 3
 unfolding closing
