@@ -102,13 +102,16 @@ pub(crate) fn field_end(classes: &[u8; 256], file: &[u8], from: usize) -> usize
     requires { ⌜ Classes (now classes) ⌝ }
     ensures { λ r. ⌜ r ≡ endOf (length (now (file .entry))) from (field today (drop from (now (file .entry)))) ⌝ }
 {
-    let mut at = line_end(classes, file, from);
-    while at < file.len() {
-        let next = at + line_end_length(file, at);
+    let mut next = from;
+    while next < file.len() {
+        let at = line_end(classes, file, next);
+        if at >= file.len() {
+            return file.len();
+        }
+        next = at + line_end_length(file, at);
         if byte_at(file, next, b';') {
             return at;
         }
-        at = line_end(classes, file, next);
     }
     file.len()
 }
