@@ -1,7 +1,7 @@
 /*
  * Reads the full case, specification 15.1, through star.h and prints what came of it:
- * the counts, the five tables, each value of each name, a value and a text as numbers,
- * and the plain form.
+ * the counts, the five tables, each value of each name, its names compared, a value and a
+ * text as numbers, and the plain form.
  */
 #include <stdio.h>
 #include <string.h>
@@ -79,6 +79,10 @@ int main(void)
     printf("frame f: refusal %u, row %u\n", (unsigned)frame.refusal, (unsigned)frame.row);
     print_values(counts, block.row, "_x");
     print_values(counts, block.row, "_y");
+
+    star_compared compared = star_compare((const uint8_t *)"_x", 2, (const uint8_t *)"_y", 2);
+    printf("_x and _y: %s, pairs %u\n", compared.equal ? "equal" : "not equal",
+           (unsigned)compared.pairs);
 
     /* the second value of _y, and a text with an uncertainty */
     star_found y = star_find_name(FILE_RANGE, TABLES, counts, block.row, (const uint8_t *)"_y", 2);

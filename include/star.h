@@ -3,8 +3,8 @@
  *
  * The library reads one STAR File from lent bytes into five lent tables of
  * 32-bit words, finds data blocks, save frames, names and values in them,
- * answers values as numbers with their uncertainties, and writes the file's
- * plain form.
+ * compares names and codes, answers values as numbers with their
+ * uncertainties, and writes the file's plain form.
  *
  * THE FIVE TABLES. Rows count from 1 and stand in file order. Offsets count
  * the file's bytes from 0; the end of a span is not included.
@@ -29,9 +29,9 @@
  * end, both bytes of 13, 10, is not content. Any line end before it is, byte
  * for byte.
  *
- * REFUSALS. Every answer but star_part and star_number has a refusal; 0,
- * STAR_OK, means accepted or found. A place is an offset into the file unless
- * said otherwise.
+ * REFUSALS. Every answer but star_compared, star_part and star_number has a
+ * refusal; 0, STAR_OK, means accepted or found. A place is an offset into the
+ * file unless said otherwise.
  *
  *   no.  constant         given when                                        place
  *   1    STAR_TOO_LARGE   file (or plain form) over 1,048,576 bytes         0
@@ -92,6 +92,7 @@
 #ifndef STAR_H
 #define STAR_H
 
+#include <stdbool.h>
 #include <stddef.h>
 #include <stdint.h>
 
@@ -227,6 +228,12 @@ typedef struct {
     uint32_t refusal, row;
 } star_found;
 
+/* What comparing answers: whether two contents are the same bytes, and how many byte pairs were compared. */
+typedef struct {
+    bool equal;
+    size_t pairs;
+} star_compared;
+
 /* What a value's lookup answers: the refusal, and the value's kind and packet, both 0 when refused. */
 typedef struct {
     uint32_t refusal, kind, packet;
@@ -343,6 +350,21 @@ star_found star_find_name(const uint8_t *file, size_t file_len,
                           const uint32_t *values, size_t values_len,
                           star_counts counts, uint32_t set,
                           const uint8_t *name, size_t name_len);
+
+/*
+ * Compares two contents, names or codes, as the lookups of a block, a frame and
+ * a name do, and reading for refusal 9: the lengths first, then the bytes from
+ * the front up to the first that differ. They may be any bytes of any length
+ * and may overlap.
+ *
+ * equal is whether they are the same bytes. pairs is how many byte pairs were
+ * compared: none where the lengths differ, else all up to and including the
+ * first that differs, or all.
+ *
+ * Refusals: none.
+ * Afterwards: all lent memory is as it was.
+ */
+star_compared star_compare(const uint8_t *a, size_t a_len, const uint8_t *b, size_t b_len);
 
 /*
  * Finds the k-th value of a name row, k from 1: its token's kind and its

@@ -26,5 +26,5 @@ pub mod raw;
 #[allow(unsafe_code)]
 pub mod star;
 
-pub use raw::{Counts, Found, Number, Part, Reading, Value, ValueNumber, Written};
+pub use raw::{Compared, Counts, Found, Number, Part, Reading, Value, ValueNumber, Written};
 pub use star::{NumberForm, Tables, TablesMut};

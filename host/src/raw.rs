@@ -218,6 +218,16 @@ pub struct Found {
     pub row: u32,
 }
 
+/// What comparing two contents answers: `star_compared`.
+#[repr(C)]
+#[derive(Clone, Copy, Debug, Default, PartialEq, Eq)]
+pub struct Compared {
+    /// Whether they are the same bytes.
+    pub equal: bool,
+    /// How many byte pairs were compared.
+    pub pairs: usize,
+}
+
 /// What a value's lookup answers: the refusal, kind and packet.
 #[repr(C)]
 #[derive(Clone, Copy, Debug, Default, PartialEq, Eq)]
@@ -365,6 +375,9 @@ extern "C" {
         name: *const u8,
         name_len: usize,
     ) -> Found;
+
+    /// See include/star.h.
+    pub fn star_compare(a: *const u8, a_len: usize, b: *const u8, b_len: usize) -> Compared;
 
     /// See include/star.h.
     pub fn star_value_at(

@@ -5,7 +5,7 @@
 //! nothing else.
 
 use crate::raw;
-use crate::raw::{Counts, Found, Number, Part, Reading, Value, ValueNumber, Written};
+use crate::raw::{Compared, Counts, Found, Number, Part, Reading, Value, ValueNumber, Written};
 
 /// The five tables, lent to lookups.
 #[derive(Clone, Copy, Debug)]
@@ -231,6 +231,12 @@ pub fn find_frame(file: &[u8], tables: Tables<'_>, counts: Counts, set: u32, cod
 /// Finds the name row of a set with this name, underscore included.
 pub fn find_name(file: &[u8], tables: Tables<'_>, counts: Counts, set: u32, name: &[u8]) -> Found {
     look!(star_find_name, file, tables, counts, set, name.as_ptr(), name.len())
+}
+
+/// Compares two contents, names or codes, as lookups and reading do.
+pub fn compare(a: &[u8], b: &[u8]) -> Compared {
+    // SAFETY: both ranges are slices, and the call writes to neither.
+    unsafe { raw::star_compare(a.as_ptr(), a.len(), b.as_ptr(), b.len()) }
 }
 
 /// The kind and packet of the k-th value of a name row, k from 1.

@@ -7,6 +7,8 @@ mod harness;
 use harness::{
     by_length, check, check_lookups, handed, read, round_trip, seeds, setting, write, Tally,
 };
+use tackturnel::raw;
+use tackturnel_tests_support::generate::twins::{self, Plan, SORTS};
 use tackturnel_tests_support::generate::{self, Rng};
 use tackturnel_tests_support::reference;
 
@@ -257,6 +259,31 @@ fn many_names() {
         tally[answer.refusal as usize] += 1;
     });
     require("many names", &tally, &[0, 9]);
+}
+
+/// Names and codes that the library tells apart by their bytes alone, or has to
+/// seek in one bucket.
+#[test]
+fn names_of_one_hash() {
+    // accepted and refused, by the sort and by what the hashes share
+    let mut tally = [[[0u64; 2]; 3]; 4];
+    seeds("names of one hash", 4_800, 8, |seed| {
+        let rng = &mut Rng::new(seed + 7_000_000);
+        let [answer, sort, share] = [seed % 2, seed / 2 % 4, seed / 8 % 3].map(|at| at as usize);
+        // the whole hash, the bucket alone, the bucket and some more
+        let bits = [20, 12, rng.between(13, 19) as u32][share];
+        let count = if rng.once_in(40) { 400 } else { rng.between(1, 60) };
+        let plan = Plan { sort: SORTS[sort], count, bits, repeats: answer == 1 };
+        let file = twins::file(rng, plan);
+        let reading = check("names of one hash", seed, &file, |file| read(seed, file, [0; 5]));
+        let expected = [raw::STAR_OK, raw::STAR_TAKEN][answer];
+        assert_eq!(reading.refusal, expected, "names of one hash, seed {seed}: {plan:?}");
+        tally[sort][share][answer] += 1;
+    });
+    println!("names of one hash: accepted and refused {tally:?}");
+    if setting("STAR_COMPARE_TIMES", 1.0) >= 0.1 {
+        assert!(tally.iter().flatten().flatten().all(|&count| count > 5), "{tally:?}");
+    }
 }
 
 #[test]

@@ -6,11 +6,13 @@ use std::collections::BTreeSet;
 use std::env;
 use std::fmt::Write;
 use std::fs;
-use std::mem::{offset_of, size_of};
+use std::mem::{offset_of, size_of, size_of_val};
 use std::path::Path;
 use std::process::Command;
 
-use tackturnel::{raw, Counts, Found, Number, Part, Reading, Value, ValueNumber, Written};
+use tackturnel::{
+    raw, Compared, Counts, Found, Number, Part, Reading, Value, ValueNumber, Written,
+};
 
 const HEADER: &str = include_str!("../../include/star.h");
 
@@ -58,20 +60,25 @@ fn lengths() -> Vec<usize> {
     (0..50).chain(most - 3..most + 3).chain(far).collect()
 }
 
-/// A struct's size and the offsets of its fields, by its name in C.
+/// A struct's size and its fields, each with its offset and size, by its name in C.
 macro_rules! layout {
     ($c:literal $rust:ident $($field:ident)*) => {
-        ($c, size_of::<$rust>(), vec![$((stringify!($field), offset_of!($rust, $field))),*])
+        ($c, size_of::<$rust>(), vec![$((
+            stringify!($field),
+            offset_of!($rust, $field),
+            size_of_val(&<$rust>::default().$field),
+        )),*])
     };
 }
 
-type Layout = (&'static str, usize, Vec<(&'static str, usize)>);
+type Layout = (&'static str, usize, Vec<(&'static str, usize, usize)>);
 
-fn layouts() -> [Layout; 8] {
+fn layouts() -> [Layout; 9] {
     [
         layout!("star_reading" Reading refusal place tokens sets names packets values),
         layout!("star_counts" Counts tokens sets names packets values),
         layout!("star_found" Found refusal row),
+        layout!("star_compared" Compared equal pairs),
         layout!("star_value" Value refusal kind packet),
         layout!("star_part" Part start end),
         layout!("star_number" Number form value uncertainty),
@@ -91,9 +98,13 @@ fn program() -> (String, String) {
     }
     for (name, size, fields) in layouts() {
         facts.push((format!("sizeof({name})"), size as u64));
-        let offset = |(field, at): (&str, usize)| (format!("offsetof({name}, {field})"), at as u64);
-        facts.extend(fields.into_iter().map(offset));
+        for (field, at, size) in fields {
+            facts.push((format!("offsetof({name}, {field})"), at as u64));
+            facts.push((format!("sizeof((({name} *)0)->{field})"), size as u64));
+        }
     }
+    facts.push(("compared.equal".to_owned(), true as u64));
+    facts.push(("compared.pairs".to_owned(), 18));
     for (at, field) in ["tokens", "sets", "names", "packets", "values"].into_iter().enumerate() {
         facts.push((format!("star_counts_of(reading).{field}"), at as u64 + 3));
         facts.push((format!("star_counts_of_written(written).{field}"), at as u64 + 13));
@@ -108,6 +119,7 @@ fn program() -> (String, String) {
         "\nint main(void)\n{\n\
          star_reading reading = {1, 2, 3, 4, 5, 6, 7};\n\
          star_written written = {10, 11, 12, 13, 14, 15, 16, 17};\n\
+         star_compared compared = {true, 18};\n\
          uint32_t refusal = reading.refusal;\n\
          if (refusal != STAR_TOO_LARGE)\n    return 1;\n\
          switch (refusal) { case STAR_OK: return 1; case STAR_TOO_LARGE: break; default: return 1; }\n",
@@ -165,7 +177,8 @@ fn header_as_cpp17() {
     compiled("header.cpp", &named("CXX", "g++"), &["-std=c++17"]);
 }
 
-/// The words of the header that begin with STAR_ are those compared here.
+/// The words of the header that begin with STAR_ are those compared here, and so
+/// are its structs.
 #[test]
 fn nothing_of_the_header_is_left_out() {
     let words = HEADER.split(|c: char| !c.is_ascii_alphanumeric() && c != '_');
@@ -175,4 +188,8 @@ fn nothing_of_the_header_is_left_out() {
     let own = ["STAR_H", "STAR_READ_BYTES_"];
     let compared: BTreeSet<&str> = constants.chain(room).chain(own).collect();
     assert_eq!(of_header, compared);
+    let structs = HEADER.lines().filter_map(|line| line.strip_prefix("} ")?.strip_suffix(';'));
+    let structs: BTreeSet<&str> = structs.collect();
+    let compared: BTreeSet<&str> = layouts().into_iter().map(|(name, ..)| name).collect();
+    assert_eq!(structs, compared);
 }

@@ -1,5 +1,6 @@
 -- The demands hold: each sentence is proved by the crate that states it.
 use mathlib.Core.Path.{refl}
+use Rattle.star_text.proofs.Comparing.{compare-equal, compare-pairs, compare-stops}
 use Rattle.star_lex.proofs.NoPair.{no-pair-as-before}
 use Rattle.star_lex.proofs.Windows.{windows-splits}
 use Rattle.star_read.proofs.Usable.{today-usable}
@@ -17,7 +18,7 @@ use Rattle.star_number.proofs.Known.{numbers-known}
 use Rattle.star_number.proofs.InOrder.{numbers-in-order, numbers-answer}
 use Rattle.star_write.proofs.Demand1.{write-answers}
 use Rattle.star_write.proofs.RoundTrip.{round-trip, writes-again}
-use Rattle.star.specs.Demands.{Demand1, Demand2, Demand3, Numbers, LineEnds}
+use Rattle.star.specs.Demands.{Demand1, Demand2, Demand3, Numbers, LineEnds, Comparisons}
 
 pub demand-1 : Demand1
 demand-1 = (read-answers, lookups-answer, values-answer, numbers-answer, write-answers)
@@ -44,3 +45,6 @@ numbers = (number-exact, number-pieces, whole-exact, power-exact, rounded-once, 
 
 pub line-ends : LineEnds
 line-ends = (refl, no-pair-as-before, windows-splits, windows-reads)
+
+pub comparisons : Comparisons
+comparisons = (compare-equal, compare-pairs, compare-stops)

@@ -2,6 +2,7 @@
 -- rules is said of the library since today's are usable.
 use mathlib.Core.Path.{_≡_}
 use mathlib.Core.Bool.{true}
+use Rattle.star_text.specs.Demands.{CompareEqual, ComparePairs, CompareStops}
 use Rattle.star_lex.specs.Rules.{today}
 use Rattle.star_lex.specs.Demands.{NoPairAsBefore, WindowsSplits}
 use Rattle.star_read.specs.Demands.{Usable, AcceptedExactly, OneReading, RowsOfReading, PlaceOfRefusal, RefusalNumber, NumbersExclude, ReadingSettled, OneOutcome, ReadAnswers, WindowsReads}
@@ -35,3 +36,8 @@ Numbers = NumberExact × NumberPieces × WholeExact × PowerExact × RoundedOnce
 -- limit and with room, with the same rows of tables 2 to 5
 abbrev pub LineEnds : Type 0
 LineEnds = (today .pairs ≡ true) × NoPairAsBefore × WindowsSplits × WindowsReads
+
+-- specification 5.4 and 14.11: the comparison of names and codes is equality of the bytes; it counts no pair where the lengths differ, else the pairs up to and including the first that
+-- differs, or all, and so no more than there are bytes
+abbrev pub Comparisons : Type 0
+Comparisons = CompareEqual × ComparePairs × CompareStops

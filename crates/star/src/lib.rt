@@ -6,8 +6,10 @@ use star_find::Value;
 use star_number::Form;
 use star_number::ValueForm;
 use star_read::Answer;
+use star_text::Comparison;
 use star_write::Written;
 ghost use mathlib.Core.Path.{_≡_};
+ghost use Rattle.star_text.specs.Compare.{compareOf};
 ghost use Rattle.star_read.specs.Answer.{tables, Reads};
 ghost use Rattle.star_find.specs.Find.{lent, findBlock, findFrame, findName, valueAt, valueSpan};
 ghost use Rattle.star_number.specs.Taken.{numberIn};
@@ -105,6 +107,14 @@ pub extern "C" fn star_find_name(
         set,
         name,
     )
+}
+
+// Compares two names or codes as reading and the lookups of a block, a frame and a name do: whether they are equal, and how many pairs of bytes were compared.
+#[no_mangle]
+pub extern "C" fn star_compare(a: &[u8], b: &[u8]) -> Comparison
+    ensures { λ r. ⌜ r ≡ compareOf (now (a .entry)) (now (b .entry)) ⌝ }
+{
+    star_text::compare(a, b)
 }
 
 // Kind and packet of the k-th value of a name row, k from 1.

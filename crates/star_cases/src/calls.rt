@@ -134,6 +134,18 @@ pub fn look(given: &[u8], file: &[u8], kept: &[u32]) {
     );
 }
 
+// Compares two contents and prints what came out.
+pub fn pairs(a: &[u8], b: &[u8]) {
+    let compared = star_text::compare(a, b);
+    print::bar();
+    if compared.equal {
+        print::text(b"1 ");
+    } else {
+        print::text(b"0 ");
+    }
+    print::number(compared.pairs);
+}
+
 // Prints the form of a number, and its floats by their bits.
 fn print_number(form: u32, value: f64, uncertainty: f64) {
     print::rows(&[form], 1, 1);

@@ -7,6 +7,7 @@
 //     set T I W               makes word I of table T, counted from 0, be W; words 1 to 5 of table 0 are the five counts, and words 6 to 10 how
 //                             many words of each table are lent
 //     look SET NAME K BYTES   looks for the block, the frame of a set and the name of a set with these bytes, and for the k-th value of a name row
+//     pairs A B               compares two contents; 1 where they are equal, else 0, and how many pairs of bytes were compared
 //     number KIND CONTENT     takes a content of a kind as a number; the floats are printed by their bits
 //     value NAME K            the k-th value of a name row as a number, in the tables that are lent
 // Any other line is a remark.
@@ -54,6 +55,15 @@ fn run_long(size: u32) {
     run_first(&mut file, size);
 }
 
+// Compares the first word and what follows it.
+fn run_pairs(given: &[u8]) {
+    let mut a = words::room();
+    let a_size = notation::unescape(words::word(given), &mut a);
+    let mut b = words::room();
+    let b_size = notation::unescape(words::rest(given), &mut b);
+    calls::pairs(words::first(&a, a_size), words::first(&b, b_size));
+}
+
 // Takes what follows a kind as the content of a value.
 fn run_number(given: &[u8]) {
     let mut content = words::room();
@@ -70,6 +80,7 @@ fn run_on(line: &[u8], given: &[u8], file: &[u8], kept: &mut [u32]) {
         b'w' => calls::write(file, words::number(given)),
         b's' => kept::set(given, kept),
         b'l' => calls::look(given, file, kept),
+        b'p' => run_pairs(given),
         b'n' => run_number(given),
         b'v' => calls::value(given, file, kept),
         _ => {}

@@ -27,7 +27,8 @@ pub fn write(file: &[u8], out: &mut [u8]) -> Written {
 fn write_again(form: &[u8]) {
     let mut out = words::room();
     let written = write(form, &mut out);
-    compare::say(star_text::same(form, words::first(&out, written.length)));
+    let compared = star_text::compare(form, words::first(&out, written.length));
+    compare::say(compared.equal);
 }
 
 // Reads a plain form and writes it again, if it was written.

@@ -150,7 +150,8 @@ fn compare(file: &[u8], tokens: &[u32], count: u32, row: u32, wanted: &[u8]) -> 
     if !has_part(file, tokens, count, row) {
         return Match::Outside;
     }
-    if star_text::same(part(file, tokens, count, row), wanted) {
+    let compared = star_text::compare(part(file, tokens, count, row), wanted);
+    if compared.equal {
         Match::Equal
     } else {
         Match::Other

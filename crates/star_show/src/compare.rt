@@ -18,10 +18,11 @@ fn same_token(file: &[u8], rows: &[u32], form: &[u8], back: &[u32], n: u32) -> b
     if star_rows::word(rows, 3, row, 0) != star_rows::word(back, 3, row, 0) {
         return false;
     }
-    star_text::same(
+    let compared = star_text::compare(
         star_lex::content(file, rows, n as usize),
         star_lex::content(form, back, n as usize),
-    )
+    );
+    compared.equal
 }
 
 // Whether two files have tokens of equal kinds and contents, one by one, in tables of 1,024 words.

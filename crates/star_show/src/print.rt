@@ -11,6 +11,11 @@ pub fn bar() {
     text(b" | ");
 }
 
+// Writes a number.
+pub fn number(n: usize) {
+    io::print_decimal(STDOUT_FILENO, n as u64);
+}
+
 // What stands before the word at a place of a table whose rows have so many words.
 fn separator(at: usize, width: u32) -> u8 {
     if width == 0 {

@@ -44,6 +44,12 @@ pub fn line(lines: &[u8], from: usize) -> &[u8] {
     &lines[start..end]
 }
 
+// The first word of a line.
+pub fn word(line: &[u8]) -> &[u8] {
+    let end = before_blank(line);
+    &line[0..end]
+}
+
 // What follows the first word of a line.
 pub fn rest(line: &[u8]) -> &[u8] {
     let end = before_blank(line);

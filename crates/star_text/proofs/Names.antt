@@ -51,14 +51,10 @@ pub same-false : (x y : List ℕ) → same x y ≡ false → key x ≡ key y →
 unfolding same
 same-false x y e d = equal-false (key x) (key y) e d
 
--- lengths that differ and bytes that differ at a place tell names apart
+-- lengths that differ tell names apart
 pub same-lengths : (x y : List ℕ) → (length x ≡ length y → ⊥) → same x y ≡ false
 unfolding same key
 same-lengths x y n = unequal (key x) (key y) (λ e. n (ap length e))
-
-pub same-byte : (x y : List ℕ) (i : ℕ) → (getD x i 0 ≡ getD y i 0 → ⊥) → same x y ≡ false
-unfolding same key
-same-byte x y i n = unequal (key x) (key y) (λ e. n (ap (λ l. getD l i 0) e))
 
 -- from a place of both on, where the bytes there are equal
 module _ (xs ys : List ℕ) (i : ℕ) where

@@ -1,11 +1,12 @@
-// The bytes of a STAR File: the class of a byte, and the first byte that is not allowed.
+// The bytes of a STAR File: the class of a byte, the first byte that is not allowed, and the comparison of two names or codes.
 ghost use mathlib.Core.Path.{_≡_};
-ghost use mathlib.Core.Bool.{true};
+ghost use mathlib.Core.Bool.{true, false};
 ghost use Prim.Native.Nat.{ℕ, _+_, _≤_, _<_};
 ghost use lib.ListN.{length, getD, drop};
 ghost use Rattle.star_text.specs.Bytes.{isAllowed, firstRefused, leading};
 ghost use Rattle.star_text.specs.Classes.{Classes, classIn, terminateIn, whiteIn, belowIn};
-ghost use Rattle.star_text.specs.Names.{same as Names·same};
+ghost use Rattle.star_text.specs.Compare.{compareOf};
+ghost use Rattle.star_text.specs.Pairs.{Two, Four, Comparing, SameFour, Skipped};
 
 // The most bytes that a file may have.
 pub const MOST_BYTES: usize = 1048576;
@@ -436,19 +437,104 @@ pub fn run_end(classes: &[u8; 256], file: &[u8], from: usize, class: u8) -> usiz
     at
 }
 
-// Whether two names or codes are equal: none are where the lengths differ, and else the first pair of bytes that differs decides.
-pub fn same(a: &[u8], b: &[u8]) -> bool
-    ensures { λ r. ⌜ r ≡ Names·same (now (a .entry)) (now (b .entry)) ⌝ }
+// Two bytes as one number.
+fn two(bytes: &[u8], at: usize) -> u32
+    requires { ⌜ at + 2 ≤ length (now bytes) ⌝ }
+    ensures { λ r. ⌜ Two (now (bytes .entry)) at r ⌝ }
+{
+    bytes[at] as u32 + bytes[at + 1] as u32 * 256
+}
+
+// Four bytes as one number, which the compiler loads at once.
+fn four(bytes: &[u8], at: usize) -> u32
+    requires { ⌜ at + 4 ≤ length (now bytes) ⌝ }
+    ensures { λ r. ⌜ Four (now (bytes .entry)) at r ⌝ }
+{
+    two(bytes, at) + two(bytes, at + 2) * 65536
+}
+
+// Where four bytes first are not the four of the other, or fewer than four are left.
+fn skip_same(a: &[u8], b: &[u8]) -> usize
+    requires { ⌜ length (now a) ≡ length (now b) ⌝ }
+    ensures { λ r. ⌜ Skipped (now (a .entry)) (now (b .entry)) r ⌝ }
+{
+    let mut at = 0;
+    while a.len() - at >= 4 {
+        if four(a, at) != four(b, at) {
+            return at;
+        }
+        at += 4;
+    }
+    at
+}
+
+// What comparing two names or codes answers: whether they are equal, and how many pairs of bytes were compared.
+#[repr(C)]
+pub struct Comparison {
+    pub equal: bool,
+    pub pairs: usize,
+}
+
+// How many pairs are compared of four that are not all equal.
+fn pairs_of_four(a: &[u8], b: &[u8], at: usize) -> usize
+    requires { ⌜ Comparing (now a) (now b) at ⌝ }
+    requires { ⌜ at + 4 ≤ length (now a) ⌝ }
+    requires { ⌜ (SameFour (now a) (now b) at → ⊥) ⌝ }
+    ensures { λ r. ⌜ r ≤ 4 ⌝ }
+    ensures { λ r. ⌜ record { equal = false; pairs = at + r } ≡ compareOf (now (a .entry)) (now (b .entry)) ⌝ }
+{
+    if a[at] != b[at] {
+        return 1;
+    }
+    if a[at + 1] != b[at + 1] {
+        return 2;
+    }
+    if a[at + 2] != b[at + 2] {
+        return 3;
+    }
+    4
+}
+
+// Compares pair by pair from a place on, before which the pairs are equal.
+fn compare_from(a: &[u8], b: &[u8], from: usize) -> Comparison
+    requires { ⌜ Comparing (now a) (now b) from ⌝ }
+    ensures { λ r. ⌜ r ≡ compareOf (now (a .entry)) (now (b .entry)) ⌝ }
+{
+    let mut at = from;
+    while at < a.len() {
+        if a[at] != b[at] {
+            let pairs = at + 1;
+            return Comparison {
+                equal: false,
+                pairs,
+            };
+        }
+        at += 1;
+    }
+    Comparison {
+        equal: true,
+        pairs: at,
+    }
+}
+
+// Compares two names or codes: the lengths first, and then from the front up to the first pair of bytes that differs. Of four that differ the pairs
+// are looked at for the count alone.
+pub fn compare(a: &[u8], b: &[u8]) -> Comparison
+    ensures { λ r. ⌜ r ≡ compareOf (now (a .entry)) (now (b .entry)) ⌝ }
 {
     if a.len() != b.len() {
-        return false;
+        return Comparison {
+            equal: false,
+            pairs: 0,
+        };
     }
-    let mut i = 0;
-    while i < a.len() {
-        if a[i] != b[i] {
-            return false;
-        }
-        i += 1;
+    let at = skip_same(a, b);
+    if a.len() - at >= 4 {
+        let pairs = at + pairs_of_four(a, b, at);
+        return Comparison {
+            equal: false,
+            pairs,
+        };
     }
-    true
+    compare_from(a, b, at)
 }

@@ -1,16 +1,16 @@
 -- The rows of a bucket, followed from the last, are all that can be equal: equal contents of one sort lie in one bucket.
-use mathlib.Core.Path.{_≡_, refl, sym, _∙_}
+use mathlib.Core.Path.{_≡_, refl, sym, _∙_, ap}
 use mathlib.Core.Bool.{Bool, true, false, cond, _&&_, _||_}
 use mathlib.Core.List.{List, [], _∷_}
 use Prim.Native.Nat.{ℕ, zero, suc, _+_, _*_, _%_, _≤_, _<_}
 use native.Mathlib.Nat.{mod-lt}
 use native.Mathlib.Omega.{arith}
 use lib.Dec.{eqb, leb}
-use borrow.Author.Tests.{eqb-true, eq-eqb, ne-eqb, le-leb, lt-leb}
+use borrow.Author.Tests.{eqb-true, eqb-false, eq-eqb, ne-eqb, le-leb, lt-leb}
 use Rattle.star_lex.specs.Tokens.{Token}
 use Rattle.star_text.proofs.Cases.{impossible, both}
 use Rattle.star_text.specs.Names.{key, same}
-use Rattle.star_unique.specs.Chain.{sortAt, mix, bucketOf, bucketAt, latest, earlier}
+use Rattle.star_unique.specs.Chain.{sortAt, mix, hashOf, bucketOf, signOf, bucketAt, latest, earlier}
 use Rattle.star_text.proofs.Names.{same-true}
 
 module _ (f : ℕ → ℕ) (b : ℕ) where
@@ -42,14 +42,46 @@ module _ (f : ℕ → ℕ) (b : ℕ) where
       go true d h = eqb-true (f m) b d
       go false d h = absurd (omega (arith, latest-within m))
 
-pub mix-below : (h : ℕ) (x : List ℕ) → h < 4096 → mix h x < 4096
+mix-below : (h : ℕ) (x : List ℕ) → h < 1048576 → mix h x < 1048576
 unfolding mix
 mix-below h [] k = k
-mix-below h (c ∷ x) k = mix-below ((h * 2685 + c) % 4096) x (mod-lt (h * 2685 + c) (omega arith))
+mix-below h (c ∷ x) k = mix-below ((h * 2685 + c) % 1048576) x (mod-lt (h * 2685 + c) (omega arith))
+
+hash-below : (sort : ℕ) (x : List ℕ) → hashOf sort x < 1048576
+unfolding hashOf
+hash-below sort x = mix-below (sort % 1048576) (key x) (mod-lt sort (omega arith))
 
 pub bucket-below : (sort : ℕ) (x : List ℕ) → bucketOf sort x < 4096
 unfolding bucketOf
-bucket-below sort x = mix-below (sort % 4096) (key x) (mod-lt sort (omega arith))
+bucket-below sort x = mod-lt (hashOf sort x) (omega arith)
+
+-- a sign has its sort
+module _ (sort : ℕ) (x : List ℕ) (small : sort < 16) where
+  pub sign-below : signOf sort x < 4096
+  unfolding signOf
+  sign-below = omega (arith, hash-below sort x)
+
+  pub sign-sort : signOf sort x % 16 ≡ sort
+  unfolding signOf
+  sign-sort = omega arith
+
+sign-same : (sort : ℕ) (x y : List ℕ) → key x ≡ key y → signOf sort y ≡ signOf sort x
+unfolding signOf hashOf
+sign-same sort x y e = rw e
+
+-- of equal names or codes the signs tell what the sorts tell
+pub sign-tells : (s t : ℕ) (x y : List ℕ) → s < 16 → t < 16 → (eqb (signOf s y) (signOf t x) && same x y) ≡ (eqb s t && same x y)
+sign-tells s t x y h k = go (same x y) refl (eqb s t) refl
+  where
+    none : (b : Bool) → (b && false) ≡ false
+    none true = refl
+    none false = refl
+
+    go : (e : Bool) → same x y ≡ e → (d : Bool) → eqb s t ≡ d → (eqb (signOf s y) (signOf t x) && e) ≡ (d && e)
+    go false e d q = none (eqb (signOf s y) (signOf t x)) ∙ sym (none d)
+    go true e true q = rw (eq-eqb _ _ (sign-same s x y (same-true x y e) ∙ ap (λ i. signOf i x) (eqb-true s t q)))
+    go true e false q =
+        rw (ne-eqb (signOf s y) (signOf t x) (λ g. eqb-false s t q (sym (sign-sort s y h) ∙ ap (λ i. i % 16) g ∙ sign-sort t x k)))
 
 module _ (at : ℕ → Token) (n : ℕ) where
   pub bucket-named : (sortAt at n ≡ 0 → ⊥) → bucketAt at n ≡ bucketOf (sortAt at n) (at n .content)
@@ -90,7 +122,7 @@ module _ (at : ℕ → Token) (sort : ℕ) (x : List ℕ) (floor : ℕ) where
 
   -- what is not in the bucket is not equal
   pub earlier-last : (sort ≡ 0 → ⊥) → (n : ℕ) → earlier at sort x floor (latest (bucketAt at) (bucketOf sort x) n) ≡ earlier at sort x floor n
-  unfolding latest bucketOf
+  unfolding latest bucketOf hashOf
   earlier-last some zero = refl
   earlier-last some (suc m) = go (eqb (bucketAt at m) (bucketOf sort x)) refl (earlier-last some m)
     where

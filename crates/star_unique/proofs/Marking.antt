@@ -2,7 +2,8 @@
 use mathlib.Core.Path.{_≡_, refl, sym, _∙_, ap, subst}
 use mathlib.Core.Bool.{Bool, true, false, cond}
 use mathlib.Core.List.{List}
-use Prim.Native.Nat.{ℕ, zero, suc, _+_, _*_, _≤_, _<_}
+use Prim.Native.Nat.{ℕ, zero, suc, _+_, _*_, _/_, _%_, _≤_, _<_}
+use native.Mathlib.Nat.{mod-lt}
 use native.Mathlib.Numerals.{add-one}
 use native.Mathlib.Omega.{arith}
 use lib.Dec.{eqb, ltb}
@@ -13,13 +14,13 @@ use Rattle.star_lex.specs.Tokens.{Token}
 use Rattle.star_unique.specs.Repeat.{nothing, isTaken, firstRepeat}
 use Rattle.star_unique.proofs.Seen.{takesAll}
 use Rattle.star_lex.specs.Holds.{Holds, fileTokens, tokenAt}
-use Rattle.star_unique.specs.Chain.{heldTable, nameSort, sortAt, passed, scopeAt, floorOf, bucketOf, bucketAt, latest, markAt, earlier, takenAt}
+use Rattle.star_unique.specs.Chain.{heldTable, nameSort, sortAt, passed, scopeAt, floorOf, hashOf, bucketOf, signOf, bucketAt, latest, markAt, earlier, takenAt}
 use Rattle.star_unique.specs.Marked.{Spans, Marked, Heads, Visited}
 use Rattle.star_unique.specs.declared.Scope.{Scope}
 use Rattle.star_unique.proofs.Clean.{Clean, takes-next, clean-next, repeat-here, clean-repeat}
 use Rattle.star_lex.proofs.Held.{held-row, count-tokens}
 use Rattle.star_unique.proofs.Scopes.{Agrees, agrees-nothing, agrees-next, taken-is}
-use Rattle.star_unique.proofs.Chain.{latest-within, bucket-below, bucket-named, bucket-none}
+use Rattle.star_unique.proofs.Chain.{latest-within, sign-below, sign-sort, bucket-named, bucket-none}
 use Rattle.star_unique.proofs.Marks.{holds-spans, sort-below, mark-is}
 
 -- a kind word that is written
@@ -127,46 +128,76 @@ module _ (file words heads : List ℕ) (count n : ℕ) (k : Marked file words co
     next = rw add-one (marked-plain file words count n k below e, heads-plain file heads n hs (bucket-none (tokenAt file) n e));
   }
 
-  module _ (sort : ℕ) (es : sort ≡ sortAt (tokenAt file) n) (some : sort ≡ 0 → ⊥) (x : List ℕ) (ex : x ≡ tokenAt file n .content) (b : ℕ)
-      (eb : b ≡ bucketOf sort x) where
+  module _ (sort : ℕ) (es : sort ≡ sortAt (tokenAt file) n) (some : sort ≡ 0 → ⊥) (x : List ℕ) (ex : x ≡ tokenAt file n .content) (h : ℕ)
+      (eh : h ≡ hashOf sort x) where
+    abbrev sign : ℕ
+    sign = sort + h / 4096 * 16
+
     named : sortAt (tokenAt file) n ≡ 0 → ⊥
     named e = some (es ∙ e)
 
-    bucket-here : b ≡ bucketAt (tokenAt file) n
-    bucket-here = eb ∙ rw (es, ex) (sym (bucket-named (tokenAt file) n named))
-
-    pub bucket-small : b < 4096
-    bucket-small = rw eb (bucket-below sort x)
-
-    pub last-here : getD heads b 0 ≡ latest (bucketAt (tokenAt file)) (bucketOf sort x) n
-    last-here = hs .last b bucket-small ∙ rw eb
-
-    -- the last row of a bucket is below the token
-    pub last-small : getD heads b 0 ≤ n
-    last-small = rw last-here (latest-within (bucketAt (tokenAt file)) (bucketOf sort x) n)
-
-    pub sort-small : sort < 16
+    sort-small : sort < 16
     sort-small = rw es (sort-below (tokenAt file) n)
 
-    mark-here : sort + getD heads b 0 * 16 ≡ markAt (tokenAt file) n
+    -- the sign and the bucket are the token's
+    sign-is : sign ≡ signOf sort x
+    unfolding signOf
+    sign-is = rw eh
+
+    sign-here : sign ≡ signOf (sortAt (tokenAt file) n) (tokenAt file n .content)
+    sign-here = sign-is ∙ rw (es, ex)
+
+    pub sign-small : sign < 4096
+    sign-small = rw sign-is (sign-below sort x sort-small)
+
+    sort-back : sign % 16 ≡ sort
+    sort-back = ap (λ s. s % 16) sign-is ∙ sign-sort sort x sort-small
+
+    bucket-is : h % 4096 ≡ bucketOf sort x
+    unfolding bucketOf
+    bucket-is = rw eh
+
+    bucket-here : h % 4096 ≡ bucketAt (tokenAt file) n
+    bucket-here = bucket-is ∙ rw (es, ex) (sym (bucket-named (tokenAt file) n named))
+
+    bucket-small : h % 4096 < 4096
+    bucket-small = mod-lt h (omega arith)
+
+    last-here : getD heads (h % 4096) 0 ≡ latest (bucketAt (tokenAt file)) (bucketOf sort x) n
+    last-here = hs .last (h % 4096) bucket-small ∙ rw bucket-is
+
+    -- the last row of a bucket is below the token
+    pub last-small : getD heads (h % 4096) 0 ≤ n
+    last-small = rw last-here (latest-within (bucketAt (tokenAt file)) (bucketOf sort x) n)
+
+    -- what following the bucket asks
+    pub follows-from : (sign % 16 ≡ 0 → ⊥) × (sign ≡ signOf (sign % 16) x)
+        × (getD heads (h % 4096) 0 ≡ latest (bucketAt (tokenAt file)) (bucketOf (sign % 16) x) n)
+    follows-from = (
+      λ z. some (sym sort-back ∙ z),
+      sign-is ∙ ap (λ s. signOf s x) (sym sort-back),
+      last-here ∙ ap (λ s. latest (bucketAt (tokenAt file)) (bucketOf s x) n) (sym sort-back),
+    )
+
+    mark-here : sign + getD heads (h % 4096) 0 * 4096 ≡ markAt (tokenAt file) n
     mark-here =
-        rw (bucket-here, hs .last (bucketAt (tokenAt file) n) (rw (← bucket-here) bucket-small), es)
-        (sym (mark-is (tokenAt file) n named))
+        ap (λ s. s + getD heads (h % 4096) 0 * 4096) sign-here
+        ∙ rw (last-here, ← bucket-is, bucket-here) (sym (mark-is (tokenAt file) n named))
 
     module _ (floor : ℕ) (ef : floor ≡ floorOf (scopeAt (tokenAt file) n) sort) where
-      taken-here : takenAt (tokenAt file) n ≡ earlier (tokenAt file) sort x floor n
+      taken-here : takenAt (tokenAt file) n ≡ earlier (tokenAt file) (sign % 16) x floor n
       unfolding takenAt
-      taken-here = rw (ne-eqb (sortAt (tokenAt file) n) 0 named, ex, ef, es)
+      taken-here = rw (sort-back, ne-eqb (sortAt (tokenAt file) n) 0 named, ex, ef, es)
 
-      pub visit-taken : true ≡ earlier (tokenAt file) sort x floor n → Visited file count n true words heads
+      pub visit-taken : true ≡ earlier (tokenAt file) (sign % 16) x floor n → Visited file count n true words heads
       visit-taken e = record { says = e ∙ sym taken-here; next = k }
 
-      pub visit-new : false ≡ earlier (tokenAt file) sort x floor n
-          → Visited file count n false (set words (n * 3) (sort + getD heads b 0 * 16)) (set heads b (n + 1))
+      pub visit-new : false ≡ earlier (tokenAt file) (sign % 16) x floor n
+          → Visited file count n false (set words (n * 3) (sign + getD heads (h % 4096) 0 * 4096)) (set heads (h % 4096) (n + 1))
       visit-new e = record {
         says = e ∙ sym taken-here;
         next = rw add-one (
-          marked-one file words count n k below (sort + getD heads b 0 * 16) mark-here,
+          marked-one file words count n k below (sign + getD heads (h % 4096) 0 * 4096) mark-here,
           subst (λ i. Heads file (set heads i (suc n)) (suc n)) (sym bucket-here) (heads-one file heads n hs (rw (← bucket-here) bucket-small)),
         );
       }
@@ -215,6 +246,26 @@ module _ (file words heads : List ℕ) (count n : ℕ) (c : Scope) (b : Between 
     marks = m;
     lasts = k;
   }
+
+-- a value, or `global_`, is no name or code and opens no scope
+sort-value : (inside : Bool) (kind : ℕ) → 7 ≤ kind → nameSort inside kind ≡ 0
+unfolding nameSort
+sort-value inside kind h =
+    rw (ne-eqb kind 6 (λ e. absurd (omega arith)), ne-eqb kind 1 (λ e. absurd (omega arith)), ne-eqb kind 2 (λ e. absurd (omega arith)))
+
+passed-value : (c : Scope) (kind next : ℕ) → 7 ≤ kind → passed c kind next ≡ c
+unfolding passed
+passed-value c kind next h =
+    rw (ne-eqb kind 1 (λ e. absurd (omega arith)), ne-eqb kind 2 (λ e. absurd (omega arith)), ne-eqb kind 3 (λ e. absurd (omega arith)))
+
+pub between-value : (file words heads : List ℕ) (count n : ℕ) (c : Scope) → Between file words heads count n c → n < count → 7 ≤ getD words (n * 3) 0
+    → Between file words heads count (n + 1) c
+between-value file words heads count n c b below value =
+    let v : Visited file count n false words heads =
+    visit-plain file words heads count n (b .marks) (b .lasts) below
+    (sym (sort-here file words count n (b .marks) below c (b .scope)) ∙ sort-value (c .inside) (getD words (n * 3) 0) value) in
+    subst (Between file words heads count (n + 1)) (passed-value c (getD words (n * 3) 0) (n + 1) value)
+    (between-next file words heads count n c b below words heads (sym (v .says)) (v .next .0) (v .next .1))
 
 pub between-end : (file words heads : List ℕ) (count n : ℕ) (c : Scope) → Between file words heads count n c → count ≤ n
     → n ≡ firstRepeat nothing (fileTokens file)

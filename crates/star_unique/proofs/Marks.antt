@@ -3,6 +3,7 @@ use mathlib.Core.Path.{_≡_, sym, _∙_, ap, subst}
 use mathlib.Core.Bool.{Bool, true, false, cond, _&&_}
 use mathlib.Core.List.{List}
 use Prim.Native.Nat.{ℕ, suc, _+_, _-_, _*_, _/_, _%_, _≤_, _<_}
+use native.Mathlib.Nat.{mod-lt}
 use native.Mathlib.Numerals.{add-one}
 use native.Mathlib.Omega.{arith}
 use lib.Dec.{eqb}
@@ -13,13 +14,13 @@ use Rattle.star_text.specs.Bytes.{mostBytes}
 use Rattle.star_lex.specs.Tokens.{Token}
 use Rattle.star_text.specs.Names.{same}
 use Rattle.star_lex.specs.Holds.{Holds, tokenAt}
-use Rattle.star_unique.specs.Chain.{heldTable, nameSort, sortAt, scopeAt, mix, bucketOf, bucketAt, latest, markAt, earlier}
+use Rattle.star_unique.specs.Chain.{heldTable, nameSort, sortAt, scopeAt, mix, bucketOf, signOf, bucketAt, latest, markAt, earlier}
 use Rattle.star_unique.specs.Marked.{Spans, Marked}
 use Rattle.star_lex.proofs.Held.{Row, held-row}
-use Rattle.star_unique.proofs.Chain.{latest-within, latest-again, latest-in, bucket-below, bucket-sort, earlier-floor, earlier-other, earlier-here, earlier-last}
+use Rattle.star_unique.proofs.Chain.{latest-within, latest-again, latest-in, bucket-below, sign-below, sign-sort, sign-tells, bucket-sort, earlier-floor, earlier-other, earlier-here, earlier-last}
 
 module _ (h : ℕ) (x : List ℕ) (i : ℕ) where
-  pub mix-next : i < length x → mix h (drop i x) ≡ mix ((h * 2685 + getD x i 0) % 4096) (drop (i + 1) x)
+  pub mix-next : i < length x → mix h (drop i x) ≡ mix ((h * 2685 + getD x i 0) % 1048576) (drop (i + 1) x)
   unfolding mix
   mix-next k = rw (drop-cons x i 0 k, add-one)
 
@@ -103,49 +104,56 @@ module _ (at : ℕ → Token) (n : ℕ) where
       go i false false false = omega arith
 
   module _ (some : sortAt at n ≡ 0 → ⊥) where
-    pub mark-is : markAt at n ≡ sortAt at n + latest (bucketAt at) (bucketAt at n) n * 16
+    pub mark-is : markAt at n ≡ signOf (sortAt at n) (at n .content) + latest (bucketAt at) (bucketAt at n) n * 4096
     unfolding markAt
     mark-is = rw (ne-eqb (sortAt at n) 0 some)
 
-    pub mark-sort : markAt at n % 16 ≡ sortAt at n
-    mark-sort = rw mark-is (omega (arith, sort-below))
+    pub mark-sign : markAt at n % 4096 ≡ signOf (sortAt at n) (at n .content)
+    mark-sign = rw mark-is (omega (arith, sign-below (sortAt at n) (at n .content) sort-below))
 
-    pub mark-link : markAt at n / 16 ≡ latest (bucketAt at) (bucketAt at n) n
-    mark-link = rw mark-is (omega (arith, sort-below))
+    pub mark-sort : markAt at n % 16 ≡ sortAt at n
+    mark-sort = rw mark-is (omega (arith, sign-sort (sortAt at n) (at n .content) sort-below))
+
+    pub mark-link : markAt at n / 4096 ≡ latest (bucketAt at) (bucketAt at n) n
+    mark-link = rw mark-is (omega (arith, sign-below (sortAt at n) (at n .content) sort-below))
 
 -- a row of a bucket, as the table has it
-module _ (file words : List ℕ) (count n sort : ℕ) (x : List ℕ) (floor row : ℕ) (k : Marked file words count 0 n) (some : sort ≡ 0 → ⊥)
-    (f : Follows (tokenAt file) sort x floor n row) (h : floor < row) where
+module _ (file words : List ℕ) (count n sign : ℕ) (x : List ℕ) (floor row : ℕ) (k : Marked file words count 0 n) (some : sign % 16 ≡ 0 → ⊥)
+    (es : sign ≡ signOf (sign % 16) x) (f : Follows (tokenAt file) (sign % 16) x floor n row) (h : floor < row) where
   back : row ≡ suc (row - 1)
   back = omega arith
 
-  at-row : Follows (tokenAt file) sort x floor n (suc (row - 1))
-  at-row = subst (λ r. Follows (tokenAt file) sort x floor n r) back f
+  at-row : Follows (tokenAt file) (sign % 16) x floor n (suc (row - 1))
+  at-row = subst (λ r. Follows (tokenAt file) (sign % 16) x floor n r) back f
 
   word-is : getD words ((row - 1) * 3) 0 ≡ markAt (tokenAt file) (row - 1)
   word-is = k .marked (row - 1) (omega arith) (omega (arith, f .within))
 
   named : sortAt (tokenAt file) (row - 1) ≡ 0 → ⊥
-  named = follow-sort (tokenAt file) sort x floor n some (row - 1) at-row
+  named = follow-sort (tokenAt file) (sign % 16) x floor n some (row - 1) at-row
 
-  equal-is : (eqb (getD words ((row - 1) * 3) 0 % 16) sort && same x (tokenAt file (row - 1) .content))
-      ≡ (eqb (sortAt (tokenAt file) (row - 1)) sort && same x (tokenAt file (row - 1) .content))
-  equal-is = rw (word-is, mark-sort (tokenAt file) (row - 1) named)
+  equal-is : (eqb (getD words ((row - 1) * 3) 0 % 4096) sign && same x (tokenAt file (row - 1) .content))
+      ≡ (eqb (sortAt (tokenAt file) (row - 1)) (sign % 16) && same x (tokenAt file (row - 1) .content))
+  equal-is =
+      ap (λ w. eqb (w % 4096) sign && same x (tokenAt file (row - 1) .content)) word-is
+      ∙ ap (λ w. eqb w sign && same x (tokenAt file (row - 1) .content)) (mark-sign (tokenAt file) (row - 1) named)
+      ∙ ap (λ w. eqb (signOf (sortAt (tokenAt file) (row - 1)) (tokenAt file (row - 1) .content)) w && same x (tokenAt file (row - 1) .content)) es
+      ∙ sign-tells (sortAt (tokenAt file) (row - 1)) (sign % 16) x (tokenAt file (row - 1) .content) (sort-below (tokenAt file) (row - 1)) (mod-lt sign (omega arith))
 
-  link-is : getD words ((row - 1) * 3) 0 / 16 ≡ latest (bucketAt (tokenAt file)) (bucketAt (tokenAt file) (row - 1)) (row - 1)
+  link-is : getD words ((row - 1) * 3) 0 / 4096 ≡ latest (bucketAt (tokenAt file)) (bucketAt (tokenAt file) (row - 1)) (row - 1)
   link-is = rw word-is (mark-link (tokenAt file) (row - 1) named)
 
-  pub turn-hit : (eqb (getD words ((row - 1) * 3) 0 % 16) sort && same x (tokenAt file (row - 1) .content)) ≡ true
-      → true ≡ earlier (tokenAt file) sort x floor n
-  turn-hit e = follow-hit (tokenAt file) sort x floor n some (row - 1) at-row (omega arith) (sym equal-is ∙ e)
+  pub turn-hit : (eqb (getD words ((row - 1) * 3) 0 % 4096) sign && same x (tokenAt file (row - 1) .content)) ≡ true
+      → true ≡ earlier (tokenAt file) (sign % 16) x floor n
+  turn-hit e = follow-hit (tokenAt file) (sign % 16) x floor n some (row - 1) at-row (omega arith) (sym equal-is ∙ e)
 
-  pub turn-miss : (eqb (getD words ((row - 1) * 3) 0 % 16) sort && same x (tokenAt file (row - 1) .content)) ≡ false
-      → Follows (tokenAt file) sort x floor n (getD words ((row - 1) * 3) 0 / 16)
+  pub turn-miss : (eqb (getD words ((row - 1) * 3) 0 % 4096) sign && same x (tokenAt file (row - 1) .content)) ≡ false
+      → Follows (tokenAt file) (sign % 16) x floor n (getD words ((row - 1) * 3) 0 / 4096)
   turn-miss e =
-      subst (λ r. Follows (tokenAt file) sort x floor n r) (sym link-is)
-      (follow-miss (tokenAt file) sort x floor n some (row - 1) at-row (sym equal-is ∙ e))
+      subst (λ r. Follows (tokenAt file) (sign % 16) x floor n r) (sym link-is)
+      (follow-miss (tokenAt file) (sign % 16) x floor n some (row - 1) at-row (sym equal-is ∙ e))
 
-  pub turn-less : getD words ((row - 1) * 3) 0 / 16 < row
+  pub turn-less : getD words ((row - 1) * 3) 0 / 4096 < row
   turn-less = rw link-is (omega (arith, latest-within (bucketAt (tokenAt file)) (bucketAt (tokenAt file) (row - 1)) (row - 1)))
 
   pub turn-span : n ≤ count → Span file words (row - 1)

@@ -2,7 +2,7 @@
 -- what a repeat is, specs/Repeat.antt says.
 use mathlib.Core.Bool.{Bool, true, false, cond, _&&_, _||_}
 use mathlib.Core.List.{List, [], _∷_}
-use Prim.Native.Nat.{ℕ, zero, suc, _+_, _*_, _%_}
+use Prim.Native.Nat.{ℕ, zero, suc, _+_, _*_, _/_, _%_}
 use lib.Dec.{eqb, leb}
 use Rattle.star_text.specs.Names.{key, same}
 use Rattle.star_rows.specs.Rows.{holding}
@@ -37,13 +37,21 @@ scopeAt at (suc n) = passed (scopeAt at n) (at n .kind) (suc n)
 unfoldable pub sortAt : (ℕ → Token) → ℕ → ℕ
 sortAt at n = nameSort (scopeAt at n .inside) (at n .kind)
 
--- the bucket of a name or code, below 4096
+-- the hash of a name or code, of 20 bits
 unfoldable pub mix : ℕ → List ℕ → ℕ
 mix h [] = h
-mix h (b ∷ bs) = mix ((h * 2685 + b) % 4096) bs
+mix h (b ∷ bs) = mix ((h * 2685 + b) % 1048576) bs
 
+unfoldable pub hashOf : (sort : ℕ) → List ℕ → ℕ
+hashOf sort x = mix (sort % 1048576) (key x)
+
+-- its bucket: the low 12 bits
 unfoldable pub bucketOf : (sort : ℕ) → List ℕ → ℕ
-bucketOf sort x = mix (sort % 4096) (key x)
+bucketOf sort x = hashOf sort x % 4096
+
+-- its sign, which tells most names and codes of one bucket apart before they are compared: the sort, and above it the other 8 bits
+unfoldable pub signOf : (sort : ℕ) → List ℕ → ℕ
+signOf sort x = sort + hashOf sort x / 4096 * 16
 
 -- the bucket of a token; 4096 where it is no name or code
 unfoldable pub bucketAt : (ℕ → Token) → ℕ → ℕ
@@ -56,7 +64,7 @@ latest f b (suc m) = cond (eqb (f m) b) (suc m) (latest f b m)
 
 -- the kind word of a row that was passed
 unfoldable pub markAt : (ℕ → Token) → ℕ → ℕ
-markAt at n = cond (eqb (sortAt at n) 0) (at n .kind) (sortAt at n + latest (bucketAt at) (bucketAt at n) n * 16)
+markAt at n = cond (eqb (sortAt at n) 0) (at n .kind) (signOf (sortAt at n) (at n .content) + latest (bucketAt at) (bucketAt at n) n * 4096)
 
 -- the kind that a marked word stands for
 unfoldable pub unmarkedKind : ℕ → ℕ

@@ -1,15 +1,15 @@
 // Names and codes that are taken: the first token that repeats one of its scope. While it is looked for, the kind word of each name or code that was
-// passed holds what it is compared as and, above that, the row of the last one before it in its bucket; the kinds are put back at the end.
+// passed holds its sign and, above that, the row of the last one before it in its bucket; the kinds are put back at the end.
 ghost use mathlib.Core.Path.{_≡_};
 ghost use mathlib.Core.Bool.{true, false, _&&_};
-ghost use Prim.Native.Nat.{_+_, _*_, _%_, _≤_, _<_};
+ghost use Prim.Native.Nat.{_+_, _*_, _/_, _%_, _≤_, _<_};
 ghost use lib.Dec.{eqb};
 ghost use lib.ListN.{length, getD};
 ghost use Rattle.star_rows.specs.Widths.{tokenWidth};
 ghost use Rattle.star_text.specs.Names.{same as Names·same};
 ghost use Rattle.star_unique.specs.Repeat.{nothing, firstRepeat};
 ghost use Rattle.star_lex.specs.Holds.{Holds, fileTokens, tokenAt};
-ghost use Rattle.star_unique.specs.Chain.{nameSort, floorOf, passed, scopeAt, bucketOf, bucketAt, latest, earlier, unmarkedKind, heldTable};
+ghost use Rattle.star_unique.specs.Chain.{nameSort, floorOf, passed, scopeAt, hashOf, bucketOf, signOf, bucketAt, latest, earlier, unmarkedKind, heldTable};
 ghost use Rattle.star_unique.specs.Marked.{Spans, Marked, Heads, Visited};
 ghost use Rattle.star_unique.specs.Compared.{Compares};
 
@@ -94,50 +94,33 @@ fn pass(scope: Scope, kind: u32, next: usize) -> Scope
     scope
 }
 
-// The bucket of a name or code.
-fn bucket(sort: u32, bytes: &[u8]) -> usize
-    ensures { λ r. ⌜ r ≡ bucketOf sort (now (bytes .entry)) ⌝ }
+// The hash of a name or code, of 20 bits: the low 12 are its bucket, and its sort and above it the other 8 are its sign.
+fn hash(sort: u32, bytes: &[u8]) -> u32
+    ensures { λ r. ⌜ r ≡ hashOf sort (now (bytes .entry)) ⌝ }
 {
-    let mut h = sort % 4096;
+    let mut h = sort % 1048576;
     let mut i = 0;
     while i < bytes.len() {
-        h = (h * 2685 + bytes[i] as u32) % 4096;
+        h = (h * 2685 + bytes[i] as u32) % 1048576;
         i += 1;
     }
-    h as usize
+    h
 }
 
-// Answers true only where two names or codes are not equal: their lengths or their last bytes differ. Those of one bucket often share their first bytes.
-fn ends_differ(a: &[u8], b: &[u8]) -> bool
-    ensures { λ r. ⌜ (r ≡ true → Names·same (now (a .entry)) (now (b .entry)) ≡ false) ⌝ }
-{
-    let len = a.len();
-    if len != b.len() {
-        return true;
-    }
-    if len == 0 {
-        return false;
-    }
-    a[len - 1] != b[len - 1]
-}
-
-// Whether token `m` is marked as of this sort and equal to these bytes.
-fn is_equal(file: &[u8], tokens: &[u32], count: usize, m: usize, sort: u32, bytes: &[u8]) -> bool
+// Whether token `m` is marked with this sign and equal to these bytes.
+fn is_equal(file: &[u8], tokens: &[u32], count: usize, m: usize, sign: u32, bytes: &[u8]) -> bool
     requires { ⌜ Spans (now file) (now tokens) count ⌝ }
     requires { ⌜ m < count ⌝ }
-    ensures { λ r. ⌜ r ≡ (eqb (getD (now (tokens .entry)) (m * tokenWidth) 0 % 16) sort && Names·same (now (bytes .entry)) (tokenAt (now (file .entry)) m .content)) ⌝ }
+    ensures { λ r. ⌜ r ≡ (eqb (getD (now (tokens .entry)) (m * tokenWidth) 0 % 4096) sign && Names·same (now (bytes .entry)) (tokenAt (now (file .entry)) m .content)) ⌝ }
 {
-    if tokens[m * WIDTH] % 16 != sort {
+    if tokens[m * WIDTH] % 4096 != sign {
         return false;
     }
-    let other = span(file, tokens, count, m);
-    if ends_differ(bytes, other) {
-        return false;
-    }
-    star_text::same(bytes, other)
+    let compared = star_text::compare(bytes, span(file, tokens, count, m));
+    compared.equal
 }
 
-// Whether a token before `n`, not before `floor`, is of this sort and has these bytes: the rows of their bucket are followed from the last.
+// Whether a token before `n`, not before `floor`, is of this sign's sort and has these bytes: the rows of their bucket are followed from the last.
 fn follow(
     file: &[u8],
     tokens: &[u32],
@@ -145,21 +128,22 @@ fn follow(
     n: usize,
     last: u32,
     floor: usize,
-    sort: u32,
+    sign: u32,
     bytes: &[u8],
 ) -> bool
     requires { ⌜ Marked (now file) (now tokens) count 0 n ⌝ }
     requires { ⌜ n ≤ count ⌝ }
-    requires { ⌜ (sort ≡ 0 → ⊥) ⌝ }
-    requires { ⌜ last ≡ latest (bucketAt (tokenAt (now file))) (bucketOf sort (now bytes)) n ⌝ }
-    ensures { λ r. ⌜ r ≡ earlier (tokenAt (now (file .entry))) sort (now (bytes .entry)) floor n ⌝ }
+    requires { ⌜ (sign % 16 ≡ 0 → ⊥) ⌝ }
+    requires { ⌜ sign ≡ signOf (sign % 16) (now bytes) ⌝ }
+    requires { ⌜ last ≡ latest (bucketAt (tokenAt (now file))) (bucketOf (sign % 16) (now bytes)) n ⌝ }
+    ensures { λ r. ⌜ r ≡ earlier (tokenAt (now (file .entry))) (sign % 16) (now (bytes .entry)) floor n ⌝ }
 {
     let mut row = last as usize;
     while row > floor {
-        if is_equal(file, tokens, count, row - 1, sort, bytes) {
+        if is_equal(file, tokens, count, row - 1, sign, bytes) {
             return true;
         }
-        row = (tokens[(row - 1) * WIDTH] / 16) as usize;
+        row = (tokens[(row - 1) * WIDTH] / 4096) as usize;
     }
     false
 }
@@ -185,7 +169,9 @@ fn visit(
         return false;
     }
     let bytes = span(file, tokens, count, n);
-    let b = bucket(sort, bytes);
+    let h = hash(sort, bytes);
+    let b = (h % 4096) as usize;
+    let sign = sort + h / 4096 * 16;
     let last = heads[b];
     if follow(
         file,
@@ -194,17 +180,17 @@ fn visit(
         n,
         last,
         floor_of(scope, sort),
-        sort,
+        sign,
         bytes,
     ) {
         return true;
     }
-    tokens[n * WIDTH] = sort + last * 16;
+    tokens[n * WIDTH] = sign + last * 4096;
     heads[b] = n as u32 + 1;
     false
 }
 
-// How many tokens stand before the first that is taken; those are marked.
+// How many tokens stand before the first that is taken; those are marked. Tokens of kind 7 and above, values and `global_`, are passed over.
 fn mark(file: &[u8], tokens: &mut [u32], count: usize, heads: &mut [u32]) -> usize
     requires { ⌜ Holds (now file) (now tokens) count ⌝ }
     requires { ⌜ Heads (now file) (now heads) 0 ⌝ }
@@ -219,6 +205,10 @@ fn mark(file: &[u8], tokens: &mut [u32], count: usize, heads: &mut [u32]) -> usi
     let mut n = 0;
     while n < count {
         let kind = tokens[n * WIDTH];
+        if kind >= 7 {
+            n += 1;
+            continue;
+        }
         if visit(file, tokens, count, heads, n, scope) {
             return n;
         }

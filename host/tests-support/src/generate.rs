@@ -1,6 +1,8 @@
 //! Files and tables to compare readers on, all from seeds.
 
 pub mod numbers;
+pub mod pairs;
+pub mod twins;
 
 use std::collections::HashSet;
 

@@ -6,8 +6,9 @@
 //! docs/DECISIONS.md; each is marked `choice` here.
 
 use std::collections::HashSet;
+use std::hash::{Hash, Hasher};
 
-use tackturnel::{Counts, Found, Part, Reading, Tables, Value, ValueNumber, Written};
+use tackturnel::{Compared, Counts, Found, Part, Reading, Tables, Value, ValueNumber, Written};
 
 use crate::number::number_of;
 use crate::{MOST_BYTES, WIDTHS};
@@ -64,6 +65,36 @@ fn line_end(file: &[u8], at: usize) -> usize {
 /// Whether white space or the end stands at an offset.
 fn white_at(file: &[u8], at: usize) -> bool {
     at >= file.len() || is_white(file[at])
+}
+
+// ------------------------------------------------------------ comparing
+
+/// Compares two names or codes: whether they are equal, and how many byte pairs
+/// are compared: none where the lengths differ, else all up to and including
+/// the first that differs, or all.
+pub fn compare(a: &[u8], b: &[u8]) -> Compared {
+    if a.len() != b.len() {
+        return Compared { equal: false, pairs: 0 };
+    }
+    let first = a.iter().zip(b).position(|(one, other)| one != other);
+    Compared { equal: first.is_none(), pairs: first.map_or(a.len(), |at| at + 1) }
+}
+
+/// A name or code, equal to another as `compare` has it.
+struct Content<'a>(&'a [u8]);
+
+impl PartialEq for Content<'_> {
+    fn eq(&self, other: &Self) -> bool {
+        compare(self.0, other.0).equal
+    }
+}
+
+impl Eq for Content<'_> {}
+
+impl Hash for Content<'_> {
+    fn hash<H: Hasher>(&self, state: &mut H) {
+        self.0.hash(state);
+    }
 }
 
 // --------------------------------------------------------------- tokens
@@ -191,7 +222,7 @@ pub fn rows(file: &[u8], tokens: &[Token]) -> Result<Rows, Refusal> {
     }
 }
 
-type Contents<'a> = HashSet<&'a [u8]>;
+type Contents<'a> = HashSet<Content<'a>>;
 
 struct Parser<'a> {
     file: &'a [u8],
@@ -229,7 +260,7 @@ impl<'a> Parser<'a> {
     fn take_unique(&mut self, taken: &mut Contents<'a>) -> Result<u32, Refusal> {
         let token = self.tokens[self.next];
         let file = self.file;
-        if !taken.insert(&file[token.start..token.end]) {
+        if !taken.insert(Content(&file[token.start..token.end])) {
             return self.refuse(9);
         }
         Ok(self.take())
@@ -542,7 +573,7 @@ fn first_equal(
     for (at, token) in rows {
         match token_part(file, tables, counts, token) {
             None => return Found { refusal: 14, row: 0 },
-            Some((_, start, end)) if &file[start..end] == sought => {
+            Some((_, start, end)) if compare(&file[start..end], sought).equal => {
                 return Found { refusal: 0, row: at as u32 + 1 };
             }
             Some(_) => {}
@@ -780,6 +811,24 @@ mod tests {
         }
         assert_eq!(answer(b"data_a _x 1\r\n"), Ok([3, 1, 1, 0, 1]));
         assert_eq!(answer(b"data_a _x 'a\r\n'"), Err((5, 10)));
+    }
+
+    #[test]
+    fn known_names_are_compared() {
+        let known = [
+            ("", "", true, 0),
+            ("a", "", false, 0),
+            ("_a", "_a", true, 2),
+            ("_a", "_b", false, 2),
+            ("_a", "_ab", false, 0),
+            ("_cell_a", "_Cell_a", false, 2),
+            ("_atom_site_aniso_U_11", "_atom_site_aniso_U_12", false, 21),
+        ];
+        for (one, other, equal, pairs) in known {
+            let answer = Compared { equal, pairs };
+            assert_eq!(compare(one.as_bytes(), other.as_bytes()), answer, "{one}, {other}");
+            assert_eq!(compare(other.as_bytes(), one.as_bytes()), answer, "{other}, {one}");
+        }
     }
 
     /// `data_a` and a loop of this many levels with one name each.

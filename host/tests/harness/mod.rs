@@ -8,7 +8,7 @@ use std::fmt::{Debug, Write};
 use std::sync::OnceLock;
 use std::time::{Duration, Instant};
 
-use tackturnel::{raw, star, Counts, Number, Part, Reading, Tables, TablesMut, Written};
+use tackturnel::{raw, star, Compared, Counts, Number, Part, Reading, Tables, TablesMut, Written};
 use tackturnel_tests_support::generate::{Handed, Question, Rng};
 use tackturnel_tests_support::notation::escaped;
 use tackturnel_tests_support::{number, reference, WIDTHS};
@@ -450,6 +450,43 @@ fn fail(label: &str, seed: u64, handed: &Handed, difference: &str) -> ! {
         escaped(&handed.file),
         handed.counts
     )
+}
+
+// ------------------------------------------------------------- comparing
+
+/// Compares two contents by both, in each order; fails where they differ.
+pub fn check_compare(label: &str, rng: &mut Rng, a: &[u8], b: &[u8]) -> Compared {
+    let (lent_a, lent_b) = (lent_bytes(rng, a), lent_bytes(rng, b));
+    let answer = star::compare(lent_a.range(), lent_b.range());
+    let turned = star::compare(lent_b.range(), lent_a.range());
+    let expected = reference::compare(a, b);
+    let mut differences = Differences::default();
+    differences.answer("compare", answer, expected);
+    differences.answer("compare the other way round", turned, expected);
+    differences.unchanged("first content", &lent_a, a);
+    differences.unchanged("second content", &lent_b, b);
+    differences.end(expected).unwrap_or_else(|difference| {
+        let cut = |content: &[u8]| escaped(&content[..content.len().min(2000)]);
+        let (bytes_a, bytes_b) = (a.len(), b.len());
+        panic!("{label}, {bytes_a} and {bytes_b} bytes:\n{}\n{}\n{difference}", cut(a), cut(b))
+    })
+}
+
+/// Compares each two parts of one lent range by both; fails where they differ.
+pub fn check_parts(label: &str, rng: &mut Rng, bytes: &[u8]) {
+    let lent = lent_bytes(rng, bytes);
+    let all = lent.range();
+    let ends = |start: usize| (start..=all.len()).map(move |end| &all[start..end]);
+    let parts: Vec<&[u8]> = (0..=all.len()).flat_map(ends).collect();
+    let mut differences = Differences::default();
+    for a in &parts {
+        for b in &parts {
+            differences.answer("compare", star::compare(a, b), reference::compare(a, b));
+        }
+    }
+    differences.unchanged("the range of both", &lent, bytes);
+    let ended = differences.end(());
+    ended.unwrap_or_else(|difference| panic!("{label}:\n{}\n{difference}", escaped(bytes)))
 }
 
 // ---------------------------------------------------------------- numbers

@@ -2,6 +2,7 @@
 use mathlib.Core.Path.{sym, _∙_, ap}
 use mathlib.Core.Option.{some}
 use borrow.Author.Tests.{not-true, not-false}
+use Rattle.star_text.specs.Compare.{compareOf}
 use Rattle.star_lex.proofs.Table.{some-of}
 use Rattle.star_find.specs.Find.{matchOf}
 use Rattle.star_find.proofs.Looking.{is-none}
@@ -19,17 +20,17 @@ returns c = rw (is-none _ (sym (c .before .has-part .ensures) ∙ not-true _ (c 
 part-requires : tie.Need-part-requires
 part-requires c κs = search needs
 
-same-requires : tie.Need-same-requires
-same-requires c κs = search needs
+compare-requires : tie.Need-compare-requires
+compare-requires c κs = search needs
 
 returns-2 : tie.Need-returns-2
-unfolding matchOf
-returns-2 c = rw (some-of _ (sym (c .before .before .before .before .has-part .ensures) ∙ not-false _ (c .before .before .before .if1 .left)) ∙ ap some (sym (c .before .before .part .ensures .0)), sym (c .before .same .ensures) ∙ c .if2 .taken)
+unfolding matchOf compareOf
+returns-2 c = rw (some-of _ (sym (c .before .before .before .before .has-part .ensures) ∙ not-false _ (c .before .before .before .if1 .left)) ∙ ap some (sym (c .before .before .part .ensures .0)), sym (ap (λ r. r .equal) (c .before .compare .ensures)) ∙ c .if2 .taken)
 
 returns-3 : tie.Need-returns-3
-unfolding matchOf
-returns-3 c = rw (some-of _ (sym (c .before .before .before .before .has-part .ensures) ∙ not-false _ (c .before .before .before .if1 .left)) ∙ ap some (sym (c .before .before .part .ensures .0)), sym (c .before .same .ensures) ∙ c .if2 .left)
+unfolding matchOf compareOf
+returns-3 c = rw (some-of _ (sym (c .before .before .before .before .has-part .ensures) ∙ not-false _ (c .before .before .before .if1 .left)) ∙ ap some (sym (c .before .before .part .ensures .0)), sym (ap (λ r. r .equal) (c .before .compare .ensures)) ∙ c .if2 .left)
 
 pub compare-spec : {M : Type 1} → statement M
 compare-spec =
-    tie.close (tie.spec has-part-requires returns part-requires same-requires returns-2 returns-3)
+    tie.close (tie.spec has-part-requires returns part-requires compare-requires returns-2 returns-3)

@@ -1,8 +1,9 @@
--- `is_equal` meets its contract, by the test on the sort, the look at the ends and the comparison of the bytes.
-use mathlib.Core.Path.{sym, _∙_}
+-- `is_equal` meets its contract, by the test on the sign and the comparison of the bytes.
+use mathlib.Core.Path.{_∙_, ap}
 use borrow.Author.Tests.{eq-eqb, ne-eqb}
 use native.Mathlib.Omega.{arith}
 use borrow.Author.Needs.{needs}
+use Rattle.star_text.specs.Compare.{compareOf}
 use Rattle.star_unique.proofs.Marks.{Span, spans-at}
 use Rattle.star_unique.proofs.is_equal.Statement.{statement}
 use Rattle.star_unique.proofs.is_equal.Tie as tie
@@ -25,21 +26,14 @@ returns c = rw (ne-eqb _ _ (c .if1 .taken))
 span-requires : tie.Need-span-requires
 span-requires c κs = search needs
 
-ends-differ-requires : tie.Need-ends-differ-requires
-ends-differ-requires c κs = search needs
+compare-requires : tie.Need-compare-requires
+compare-requires c κs = search needs
 
 returns-2 : tie.Need-returns-2
+unfolding compareOf
 returns-2 c =
-    let at-span = c .before .before in
-    rw (eq-eqb _ _ (at-span .before .if1 .left), ← at-span .span .ensures) (sym (c .before .ends-differ .ensures (c .if2 .taken)))
-
-same-requires : tie.Need-same-requires
-same-requires c κs = search needs
-
-returns-3 : tie.Need-returns-3
-returns-3 c =
-    let at-span = c .before .before .before in
-    c .same .ensures ∙ rw (eq-eqb _ _ (at-span .before .if1 .left), at-span .span .ensures)
+    let at-span = c .before in
+    ap (λ r. r .equal) (c .compare .ensures) ∙ rw (eq-eqb _ _ (at-span .before .if1 .left), at-span .span .ensures)
 
 pub is-equal-spec : {M : Type 1} → statement M
 is-equal-spec =
@@ -50,7 +44,5 @@ is-equal-spec =
     shared-slice-read-if1
     returns
     span-requires
-    ends-differ-requires
-    returns-2
-    same-requires
-    returns-3)
+    compare-requires
+    returns-2)

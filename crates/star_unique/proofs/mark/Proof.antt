@@ -5,7 +5,7 @@ use native.Mathlib.Omega.{arith}
 use borrow.Author.Needs.{needs}
 use lib.ListN.{length}
 use Rattle.star_lex.proofs.Held.{count-small}
-use Rattle.star_unique.proofs.Marking.{Between, between-start, room-here, between-taken, between-next, between-end, visited-taken, visited-new}
+use Rattle.star_unique.proofs.Marking.{Between, between-start, room-here, between-taken, between-next, between-value, between-end, visited-taken, visited-new}
 use Rattle.star_unique.proofs.mark.Statement.{statement}
 use Rattle.star_unique.proofs.mark.Tie as tie
 
@@ -28,36 +28,47 @@ mul-kind-2 c = omega (arith, room-here _ _ _ _ (c .before .loop .inv .0 .marks) 
 slice-read-kind : tie.Need-slice-read-kind Inv-loop μ-loop
 slice-read-kind c = omega (arith, room-here _ _ _ _ (c .before .before .loop .inv .0 .marks) (omega arith), count-small _ _ _ (c .before .before .before .before .before .before .pre .0))
 
-visit-requires : tie.Need-visit-requires Inv-loop μ-loop
-visit-requires c κs =
-    let at = c .before .before .before .before .loop .inv .0 in
-    (at .marks, (at .lasts, (omega arith, at .scope)))
-
-same-length : tie.Need-same-length Inv-loop μ-loop
-same-length c = c .before .before .before .before .before .visit .kept .1 .0 ∙ c .before .before .before .before .before .before .before .before .before .before .loop .inv .1
-
-same-length-2 : tie.Need-same-length-2 Inv-loop μ-loop
-same-length-2 c = c .before .before .before .before .before .visit .kept .1 .1 .1 .0 ∙ c .before .before .before .before .before .before .before .before .before .before .loop .inv .2
-
-returns : tie.Need-returns Inv-loop μ-loop
-returns c =
-    let at = c .before .before .before .before .before .before .before .before .before .before .loop in
-    let v = visited-taken _ _ _ _ _ _ (c .before .before .before .before .before .visit .ensures) (c .if1 .taken) in
-    (between-taken _ _ _ _ _ _ (at .inv .0) (omega arith) (v .0), v .1)
-
 add-n : tie.Need-add-n Inv-loop μ-loop
 add-n c = omega arith
-
-pass-requires : tie.Need-pass-requires Inv-loop μ-loop
-pass-requires c κs = search needs
 
 loop-less : tie.Need-loop-less Inv-loop μ-loop
 loop-less c = omega arith
 
 loop-again : tie.Need-loop-again Inv-loop μ-loop
 loop-again c =
+    let at = c .before .before .before .loop in
+    (between-value _ _ _ _ _ _ (at .inv .0) (omega arith) (c .if1 .taken), at .inv .1, at .inv .2)
+
+visit-requires : tie.Need-visit-requires Inv-loop μ-loop
+visit-requires c κs =
+    let at = c .before .before .before .before .before .loop .inv .0 in
+    (at .marks, (at .lasts, (omega arith, at .scope)))
+
+same-length : tie.Need-same-length Inv-loop μ-loop
+same-length c = c .before .before .before .before .before .visit .kept .1 .0 ∙ c .before .before .before .before .before .before .before .before .before .before .before .loop .inv .1
+
+same-length-2 : tie.Need-same-length-2 Inv-loop μ-loop
+same-length-2 c = c .before .before .before .before .before .visit .kept .1 .1 .1 .0 ∙ c .before .before .before .before .before .before .before .before .before .before .before .loop .inv .2
+
+returns : tie.Need-returns Inv-loop μ-loop
+returns c =
     let at = c .before .before .before .before .before .before .before .before .before .before .before .loop in
-    let v = visited-new _ _ _ _ _ _ (c .before .before .before .before .before .before .visit .ensures) (c .before .if1 .left) in (
+    let v = visited-taken _ _ _ _ _ _ (c .before .before .before .before .before .visit .ensures) (c .if2 .taken) in
+    (between-taken _ _ _ _ _ _ (at .inv .0) (omega arith) (v .0), v .1)
+
+add-n-2 : tie.Need-add-n-2 Inv-loop μ-loop
+add-n-2 c = omega arith
+
+pass-requires : tie.Need-pass-requires Inv-loop μ-loop
+pass-requires c κs = search needs
+
+loop-less-2 : tie.Need-loop-less-2 Inv-loop μ-loop
+loop-less-2 c = omega arith
+
+loop-again-2 : tie.Need-loop-again-2 Inv-loop μ-loop
+loop-again-2 c =
+    let at = c .before .before .before .before .before .before .before .before .before .before .before .before .loop in
+    let v = visited-new _ _ _ _ _ _ (c .before .before .before .before .before .before .visit .ensures) (c .before .if2 .left) in (
       rw (c .pass .ensures) (between-next _ _ _ _ _ _ (at .inv .0) (omega arith) _ _ (v .0) (v .1) (v .2)),
       c .before .before .before .before .before .before .visit .kept .1 .0 ∙ at .inv .1,
       c .before .before .before .before .before .before .visit .kept .1 .1 .1 .0 ∙ at .inv .2,
@@ -82,14 +93,17 @@ mark-spec =
     mul-kind
     mul-kind-2
     slice-read-kind
+    add-n
+    loop-less
+    loop-again
     visit-requires
     same-length
     same-length-2
     returns
-    add-n
+    add-n-2
     pass-requires
-    loop-less
-    loop-again
+    loop-less-2
+    loop-again-2
     same-length-3
     same-length-4
     returns-2)

@@ -1,13 +1,13 @@
--- `visit` meets its contract: the token's sort, bucket and scope say where it is looked for.
+-- `visit` meets its contract: the token's sort, hash and scope say where it is looked for.
 use mathlib.Core.Path.{_≡_, sym, _∙_, ap}
-use Prim.Native.Nat.{ℕ, _*_, _≤_, _<_}
+use Prim.Native.Nat.{ℕ, _+_, _*_, _/_, _%_, _≤_, _<_}
 use native.Mathlib.Omega.{arith}
 use lib.ListN.{getD}
 use borrow.Author.Needs.{needs}
 use Rattle.star_lex.specs.Holds.{tokenAt}
 use Rattle.star_unique.specs.Chain.{nameSort, sortAt, floorOf}
 use Rattle.star_lex.proofs.Held.{count-small}
-use Rattle.star_unique.proofs.Marking.{sort-here, visit-plain, visit-taken, visit-new, bucket-small, last-here, last-small, sort-small}
+use Rattle.star_unique.proofs.Marking.{sort-here, visit-plain, visit-taken, visit-new, follows-from, last-small, sign-small}
 use Rattle.star_unique.proofs.visit.Statement.{statement}
 use Rattle.star_unique.proofs.visit.Tie as tie
 
@@ -34,73 +34,76 @@ returns c =
 span-requires : tie.Need-span-requires
 span-requires c κs = search needs
 
-bucket-requires : tie.Need-bucket-requires
-bucket-requires c κs = search needs
+hash-requires : tie.Need-hash-requires
+hash-requires c κs = search needs
 
-abbrev start : tie.After-bucket → tie.Start
+abbrev start : tie.After-hash → tie.Start
 start c = c .before .before .before .before .before .before .before .before .before
 
-abbrev at-sort : tie.After-bucket → tie.After-sort-of
+abbrev at-sort : tie.After-hash → tie.After-sort-of
 at-sort c = c .before .before .before .before
 
--- the sort, the bucket and its last row are those of the token
-sort-right : (c : tie.After-bucket) → at-sort c .sort-of .result ≡ sortAt (tokenAt (start c .args .file .now)) (start c .args .n)
+-- the sort is that of the token; its sign is small, and so is the last row of its bucket
+sort-right : (c : tie.After-hash) → at-sort c .sort-of .result ≡ sortAt (tokenAt (start c .args .file .now)) (start c .args .n)
 sort-right c = sort-is (start c) _ (at-sort c .sort-of .ensures)
 
-bucket-right : (c : tie.After-bucket) → c .bucket .result < 4096
-bucket-right c =
+sign-right : (c : tie.After-hash) → at-sort c .sort-of .result + c .hash .result / 4096 * 16 < 4096
+sign-right c =
     let s = start c in
-    bucket-small _ _ _ _ _ (s .pre .0) (s .pre .1 .0) (s .pre .1 .1 .0) _ (sort-right c) (c .before .before .before .if1 .left) _ (c .before .span .ensures) _ (c .bucket .ensures)
+    sign-small _ _ _ _ _ (s .pre .0) (s .pre .1 .0) (s .pre .1 .1 .0) _ (sort-right c) (c .before .before .before .if1 .left) _ (c .before .span .ensures) _ (c .hash .ensures)
 
-last-right : (c : tie.After-bucket) → getD (start c .args .heads .now) (c .bucket .result) 0 ≤ start c .args .n
+last-right : (c : tie.After-hash) → getD (start c .args .heads .now) (c .hash .result % 4096) 0 ≤ start c .args .n
 last-right c =
     let s = start c in
-    last-small _ _ _ _ _ (s .pre .0) (s .pre .1 .0) (s .pre .1 .1 .0) _ (sort-right c) (c .before .before .before .if1 .left) _ (c .before .span .ensures) _ (c .bucket .ensures)
+    last-small _ _ _ _ _ (s .pre .0) (s .pre .1 .0) (s .pre .1 .1 .0) _ (sort-right c) (c .before .before .before .if1 .left) _ (c .before .span .ensures) _ (c .hash .ensures)
 
-sort-few : (c : tie.After-bucket) → at-sort c .sort-of .result < 16
-sort-few c =
-    let s = start c in
-    sort-small _ _ _ _ _ (s .pre .0) (s .pre .1 .0) (s .pre .1 .1 .0) _ (sort-right c) (c .before .before .before .if1 .left) _ (c .before .span .ensures) _ (c .bucket .ensures)
+cast-b : tie.Need-cast-b
+cast-b c = search needs
+
+mul-sign : tie.Need-mul-sign
+mul-sign c = search needs
+
+add-sign : tie.Need-add-sign
+add-sign c = omega (arith, sign-right c)
 
 mul-last : tie.Need-mul-last
-mul-last c = omega (arith, bucket-right c)
+mul-last c = search needs
 
 slice-read-last : tie.Need-slice-read-last
-slice-read-last c = omega (arith, bucket-right (c .before), start (c .before) .pre .1 .0 .size)
+slice-read-last c = omega (arith, start (c .before) .pre .1 .0 .size)
 
 floor-of-requires : tie.Need-floor-of-requires
 floor-of-requires c κs = search needs
 
 follow-requires : tie.Need-follow-requires
 follow-requires c κs =
-    let at-bucket = c .before .before .before in
-    let s = start at-bucket in
-    let named = at-bucket .before .before .before .if1 .left in
-    let last = last-here _ _ _ _ _ (s .pre .0) (s .pre .1 .0) (s .pre .1 .1 .0) _ (sort-right at-bucket) named _ (at-bucket .before .span .ensures) _ (at-bucket .bucket .ensures) in
-    (s .pre .0, (omega (arith, s .pre .1 .1 .0), (named, last)))
+    let at-hash = c .before .before .before in
+    let s = start at-hash in
+    let asks = follows-from _ _ _ _ _ (s .pre .0) (s .pre .1 .0) (s .pre .1 .1 .0) _ (sort-right at-hash) (at-hash .before .before .before .if1 .left) _ (at-hash .before .span .ensures) _ (at-hash .hash .ensures) in
+    (s .pre .0, (omega (arith, s .pre .1 .1 .0), (asks .0, (asks .1, asks .2))))
 
 same-length : tie.Need-same-length
 same-length c = search needs
 
 returns-2 : tie.Need-returns-2
 returns-2 c =
-    let at-bucket = c .before .before .before .before .before in
-    let s = start at-bucket in
-    let floor = c .before .before .floor-of .ensures ∙ ap (λ u. floorOf u (at-sort at-bucket .sort-of .result)) (s .pre .1 .1 .1) in
-    visit-taken _ _ _ _ _ (s .pre .0) (s .pre .1 .0) (s .pre .1 .1 .0) _ (sort-right at-bucket) (at-bucket .before .before .before .if1 .left) _ (at-bucket .before .span .ensures) _ (at-bucket .bucket .ensures) _ floor
+    let at-hash = c .before .before .before .before .before in
+    let s = start at-hash in
+    let floor = c .before .before .floor-of .ensures ∙ ap (λ u. floorOf u (at-sort at-hash .sort-of .result)) (s .pre .1 .1 .1) in
+    visit-taken _ _ _ _ _ (s .pre .0) (s .pre .1 .0) (s .pre .1 .1 .0) _ (sort-right at-hash) (at-hash .before .before .before .if1 .left) _ (at-hash .before .span .ensures) _ (at-hash .hash .ensures) _ floor
     (sym (c .if2 .taken) ∙ c .before .follow .ensures)
 
 mul-tokens : tie.Need-mul-tokens
 mul-tokens c =
-    let at-bucket = c .before .before .before .before .before in
-    let s = start at-bucket in
-    omega (arith, last-right at-bucket, sort-few at-bucket, s .pre .1 .1 .0, count-small _ _ _ (s .pre .0 .spans .table))
+    let at-hash = c .before .before .before .before .before in
+    let s = start at-hash in
+    omega (arith, last-right at-hash, sign-right at-hash, s .pre .1 .1 .0, count-small _ _ _ (s .pre .0 .spans .table))
 
 add-tokens : tie.Need-add-tokens
 add-tokens c =
-    let at-bucket = c .before .before .before .before .before in
-    let s = start at-bucket in
-    omega (arith, last-right at-bucket, sort-few at-bucket, s .pre .1 .1 .0, count-small _ _ _ (s .pre .0 .spans .table))
+    let at-hash = c .before .before .before .before .before in
+    let s = start at-hash in
+    omega (arith, last-right at-hash, sign-right at-hash, s .pre .1 .1 .0, count-small _ _ _ (s .pre .0 .spans .table))
 
 mul-tokens-2 : tie.Need-mul-tokens-2
 mul-tokens-2 c = search needs
@@ -122,14 +125,10 @@ add-heads c =
     omega (arith, s .pre .1 .1 .0, count-small _ _ _ (s .pre .0 .spans .table))
 
 mul-heads : tie.Need-mul-heads
-mul-heads c =
-    let at-bucket = c .before .before .before .before .before in
-    omega (arith, bucket-right at-bucket, start at-bucket .pre .1 .0 .size)
+mul-heads c = search needs
 
 slice-write-heads : tie.Need-slice-write-heads
-slice-write-heads c =
-    let at-bucket = c .before .before .before .before .before in
-    omega (arith, bucket-right at-bucket, start at-bucket .pre .1 .0 .size)
+slice-write-heads c = omega (arith, start (c .before .before .before .before .before) .pre .1 .0 .size)
 
 same-length-2 : tie.Need-same-length-2
 same-length-2 c = search needs
@@ -139,10 +138,10 @@ same-length-3 c = search needs
 
 returns-3 : tie.Need-returns-3
 returns-3 c =
-    let at-bucket = c .before .before .before .before .before in
-    let s = start at-bucket in
-    let floor = c .before .before .floor-of .ensures ∙ ap (λ u. floorOf u (at-sort at-bucket .sort-of .result)) (s .pre .1 .1 .1) in
-    visit-new _ _ _ _ _ (s .pre .0) (s .pre .1 .0) (s .pre .1 .1 .0) _ (sort-right at-bucket) (at-bucket .before .before .before .if1 .left) _ (at-bucket .before .span .ensures) _ (at-bucket .bucket .ensures) _ floor
+    let at-hash = c .before .before .before .before .before in
+    let s = start at-hash in
+    let floor = c .before .before .floor-of .ensures ∙ ap (λ u. floorOf u (at-sort at-hash .sort-of .result)) (s .pre .1 .1 .1) in
+    visit-new _ _ _ _ _ (s .pre .0) (s .pre .1 .0) (s .pre .1 .1 .0) _ (sort-right at-hash) (at-hash .before .before .before .if1 .left) _ (at-hash .before .span .ensures) _ (at-hash .hash .ensures) _ floor
     (sym (c .if2 .left) ∙ c .before .follow .ensures)
 
 pub visit-spec : {M : Type 1} → statement M
@@ -155,7 +154,10 @@ visit-spec =
     sort-of-requires
     returns
     span-requires
-    bucket-requires
+    hash-requires
+    cast-b
+    mul-sign
+    add-sign
     mul-last
     slice-read-last
     floor-of-requires

@@ -1,23 +1,23 @@
--- `bucket` meets its contract: mixing the bytes that are left into what was mixed gives the whole.
+-- `hash` meets its contract: mixing the bytes that are left into what was mixed gives the whole.
 use mathlib.Core.Path.{_≡_, refl, sym, _∙_}
 use Prim.Native.Nat.{_-_, _≤_, _<_}
 use native.Mathlib.Nat.{mod-lt}
 use native.Mathlib.Omega.{arith}
 use lib.ListN.{length, drop}
 use Rattle.star_text.specs.Names.{key}
-use Rattle.star_unique.specs.Chain.{mix, bucketOf}
+use Rattle.star_unique.specs.Chain.{mix, hashOf}
 use Rattle.star_unique.proofs.Marks.{mix-next, mix-end}
-use Rattle.star_unique.proofs.bucket.Statement.{statement}
-use Rattle.star_unique.proofs.bucket.Tie as tie
+use Rattle.star_unique.proofs.hash.Statement.{statement}
+use Rattle.star_unique.proofs.hash.Tie as tie
 
 abbrev Inv-loop : tie.InvT-loop
-Inv-loop sort bytes h₀ i₀ h i = (i ≤ length bytes) × (h < 4096) × (mix h (drop i bytes) ≡ bucketOf sort bytes)
+Inv-loop sort bytes h₀ i₀ h i = (i ≤ length bytes) × (h < 1048576) × (mix h (drop i bytes) ≡ hashOf sort bytes)
 
 abbrev μ-loop : tie.MeasureT-loop
 μ-loop sort bytes h₀ i₀ h i = length bytes - i
 
 loop-holds : tie.Need-loop-holds Inv-loop μ-loop
-unfolding bucketOf key
+unfolding hashOf key
 loop-holds c = (omega arith, mod-lt _ (omega arith), refl)
 
 mul-h : tie.Need-mul-h Inv-loop μ-loop
@@ -43,14 +43,11 @@ loop-again c =
     let at = c .before .before .loop in
     (omega arith, mod-lt _ (omega arith), sym (mix-next (at .h) _ (at .i) (omega arith)) ∙ at .inv .2)
 
-cast-result : tie.Need-cast-result Inv-loop μ-loop
-cast-result c = omega arith
-
 returns : tie.Need-returns Inv-loop μ-loop
 returns c = sym (mix-end (c .before .loop .h) _ (c .before .loop .i) (omega arith)) ∙ c .before .loop .inv .2
 
-pub bucket-spec : {M : Type 1} → statement M
-bucket-spec =
+pub hash-spec : {M : Type 1} → statement M
+hash-spec =
     tie.close
     (tie.spec
     Inv-loop
@@ -63,5 +60,4 @@ bucket-spec =
     add-i
     loop-less
     loop-again
-    cast-result
     returns)
