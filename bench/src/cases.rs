@@ -1,11 +1,13 @@
 //! The files that are measured.
 
+use tackturnel_tests_support::generate::twins::{bucket, four_between, hash, hashed, pairs, Sort};
+
 /// A name to call a case by, and the making of its file.
 pub type Case = (&'static str, fn() -> Vec<u8>);
 
 /// All cases: five sorts of a million bytes, then names and codes that are
 /// compared with one another, in growing numbers and of each sort.
-pub const CASES: [Case; 12] = [
+pub const CASES: [Case; 14] = [
     ("loop", || numbers(1_000_000)),
     ("items", || items(1_000_000)),
     ("items-values", || items_as_values(1_000_000)),
@@ -13,11 +15,13 @@ pub const CASES: [Case; 12] = [
     ("nested", || nested(1_000_000)),
     ("items-10k", || items(10_000)),
     ("items-100k", || items(100_000)),
+    ("aniso", || aniso(1_000_000)),
     ("header", || header(1_000_000)),
     ("frames", || frames(1_000_000)),
     ("blocks", || blocks(1_000_000)),
     ("bucket-100k", || one_bucket(100_000)),
     ("bucket", || one_bucket(1_000_000)),
+    ("twins-100k", || twins(100_000)),
 ];
 
 /// A head and then pieces by number, up to about so many bytes.
@@ -87,6 +91,18 @@ fn nested(bytes: usize) -> Vec<u8> {
     })
 }
 
+/// Single items whose names are of one length and share all but their last bytes.
+fn aniso(bytes: usize) -> Vec<u8> {
+    filled("data_aniso\n", bytes, |number| {
+        format!("{} 0.0{}\n", aniso_name(number), 100 + number % 900)
+    })
+}
+
+/// A name of 24 bytes, 19 of them common to all.
+pub fn aniso_name(number: usize) -> String {
+    format!("_atom_site_aniso_U_{number:05}")
+}
+
 /// One loop of many names, and one packet.
 fn header(bytes: usize) -> Vec<u8> {
     let name = |number: usize| format!("_column_name_{number:08}\n");
@@ -107,15 +123,31 @@ fn blocks(bytes: usize) -> Vec<u8> {
     filled("", bytes, |number| format!("data_b{number:05} _x 1\n"))
 }
 
-/// Single items whose names all lie in one bucket of the library's hash.
+/// A single item, the bytes of its name being a head and an end.
+fn item(head: &str, end: &[u8]) -> String {
+    let end: String = end.iter().map(|&byte| byte as char).collect();
+    format!("{head}{end} 1\n")
+}
+
+/// Single items whose names all lie in one bucket.
 fn one_bucket(bytes: usize) -> Vec<u8> {
     filled("data_bucket\n", bytes, |number| {
         let name = format!("_n{number:07}");
-        let mix = |hash: u32, byte: u8| (hash * 2685 + u32::from(byte)) % 4096;
-        let hash = name.bytes().fold(6, mix);
+        let hash = hash(Sort::BlockName, name.as_bytes());
         // two bytes more lead to bucket 0
-        let ends = (b'!'..=b'~').flat_map(|one| (b'!'..=b'~').map(move |two| (one, two)));
-        let end = ends.clone().find(|&(one, two)| mix(mix(hash, one), two) == 0);
-        end.map_or(String::new(), |(one, two)| format!("{name}{}{} 1\n", one as char, two as char))
+        let end = pairs().find(|end| bucket(hashed(hash, end)) == 0);
+        end.map_or(String::new(), |end| item(&name, &end))
+    })
+}
+
+/// Single items whose names all have the same hash and the same last byte, as long
+/// as those of one bucket.
+fn twins(bytes: usize) -> Vec<u8> {
+    filled("data_twins\n", bytes, |number| {
+        let name = format!("_t{number:04}");
+        let hash = hash(Sort::BlockName, name.as_bytes());
+        // four bytes more lead to hash 0, from which the last goes on
+        let end = four_between(hash, 0, pairs());
+        end.map_or(String::new(), |[a, b, c, d]| item(&name, &[a, b, c, d, b'x']))
     })
 }

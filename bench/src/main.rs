@@ -1,18 +1,25 @@
-//! Times reading and writing beside a plain copy of the same bytes.
+//! Times reading and writing beside a plain copy of the same bytes, and lookups and
+//! numbers.
 //!
 //! `tackturnel-bench [case ...]` prints a table, each figure the best of
 //! several runs in MB/s, a megabyte being 1,000,000 bytes.
-//! `tackturnel-bench --numbers` prints the time of a number beside that of C's
-//! `strtod` on the same texts.
-//! `tackturnel-bench --list` prints the cases, `--list numbers` those of numbers.
+//! `tackturnel-bench --numbers [case ...]` prints the time of a number beside that
+//! of C's `strtod` on the same texts.
+//! `tackturnel-bench --lookups [case ...]` prints the time of a name's lookup, and
+//! of each name row that it passes.
+//! `tackturnel-bench --list` prints the cases, `--list numbers` those of numbers,
+//! `--list lookups` those of lookups.
 //! `tackturnel-bench --once case read|write` makes everything ready and makes
 //! one call, for counting its instructions; it prints the file's bytes.
 //! `tackturnel-bench --once numbers-case number_of` makes one call for each text
 //! and prints how many there are.
+//! `tackturnel-bench --once lookup-case find_name` looks up each name of a case of
+//! 1,000 names and each 100th of one of 30,000, and prints how many that are.
 
 #![deny(unsafe_code)]
 
 mod cases;
+mod lookups;
 mod numbers;
 #[allow(unsafe_code)]
 mod strtod;
@@ -123,8 +130,11 @@ fn main() {
     match arguments[..] {
         ["--list"] => CASES.iter().for_each(|case| println!("{}", case.0)),
         ["--list", "numbers"] => numbers::CASES.iter().for_each(|case| println!("{}", case.0)),
+        ["--list", "lookups"] => lookups::CASES.iter().for_each(|case| println!("{}", case.name)),
         ["--numbers", ref names @ ..] => numbers::times(names),
+        ["--lookups", ref names @ ..] => lookups::times(names),
         ["--once", name, "number_of"] => numbers::once(name),
+        ["--once", name, "find_name"] => lookups::once(name),
         ["--once", name, call] => once(named(name), call),
         _ => {
             let chosen: Vec<Case> = match arguments.is_empty() {

@@ -26,7 +26,7 @@ pub const CASES: [Case; 6] = [
 ];
 
 /// A number below a limit that seems to follow no rule.
-fn scattered(number: usize, limit: usize) -> usize {
+pub fn scattered(number: usize, limit: usize) -> usize {
     (number as u64 + 1).wrapping_mul(0x9e37_79b9_7f4a_7c15).rotate_left(23) as usize % limit
 }
 
