@@ -1,7 +1,7 @@
 /*
  * Reads the full case, specification 15.1, through star.h and prints what came of it:
  * the counts, the five tables, each value of each name, its names compared, a value and a
- * text as numbers, and the plain form.
+ * text as numbers, the plain form, and whether its names and codes fit 32 bytes.
  */
 #include <stdio.h>
 #include <string.h>
@@ -96,5 +96,9 @@ int main(void)
     star_written written = star_write(FILE_RANGE, TABLES, plain, sizeof(plain));
     printf("plain form, %u bytes:\n", (unsigned)written.length);
     fwrite(plain, 1, written.length, stdout);
+
+    star_checked checked = star_fits_32(FILE_RANGE, TABLES);
+    printf("names and codes fit 32 bytes: %s, place %u\n", checked.yes ? "yes" : "no",
+           (unsigned)checked.place);
     return 0;
 }

@@ -4,7 +4,8 @@
  * The library reads one STAR File from lent bytes into five lent tables of
  * 32-bit words, finds data blocks, save frames, names and values in them,
  * compares names and codes, answers values as numbers with their
- * uncertainties, and writes the file's plain form.
+ * uncertainties, writes the file's plain form, and answers whether its names
+ * and codes keep the limit of older readers.
  *
  * THE FIVE TABLES. Rows count from 1 and stand in file order. Offsets count
  * the file's bytes from 0; the end of a span is not included.
@@ -37,7 +38,7 @@
  *   1    STAR_TOO_LARGE   file (or plain form) over 1,048,576 bytes         0
  *   2    STAR_BAD_BYTE    a byte not allowed (allowed: 9 to 13, 32 to 126)  the first such byte
  *   3    STAR_BAD_WORD    ill-formed word                                   its first byte
- *   4    STAR_TOO_LONG    name or code over 32 bytes                        its token's first byte
+ *   4    STAR_TOO_LONG    name or code over 75 bytes                        its token's first byte
  *   5    STAR_OPEN_QUOTE  quote not closed on its line                      the quote
  *   6    STAR_OPEN_TEXT   text field not closed, or byte after its          the opening ;
  *                         closing ;
@@ -160,8 +161,10 @@ enum star_number_form {
 
 /* The most bytes of a file and of a plain form. */
 #define STAR_MOST_BYTES 1048576
-/* The most bytes of a name, its underscore included, and of a block or frame code. */
-#define STAR_MOST_NAME_BYTES 32
+/* The most bytes of a name, its underscore included, and of a block or frame code: CIF 1.1's limit. */
+#define STAR_MOST_NAME_BYTES 75
+/* The most bytes of a name or code that readers before this limit was raised take. */
+#define STAR_OLD_NAME_BYTES 32
 /* The most levels of a loop. */
 #define STAR_MOST_LEVELS 8
 /* The most that the digits of a number, and those of its uncertainty, may be: 2 to the 53. */
@@ -218,7 +221,7 @@ typedef struct {
     uint32_t refusal, place, tokens, sets, names, packets, values;
 } star_reading;
 
-/* The rows in each table, as a reading or a writing answered them. */
+/* The rows in each table, as a reading, a writing or a check answered them. */
 typedef struct {
     uint32_t tokens, sets, names, packets, values;
 } star_counts;
@@ -261,6 +264,11 @@ typedef struct {
     uint32_t refusal, place, length, tokens, sets, names, packets, values;
 } star_written;
 
+/* What a check of a file answers: as reading, and yes, 1 for yes and 0 for no; 0 when refused. */
+typedef struct {
+    uint32_t refusal, place, yes, tokens, sets, names, packets, values;
+} star_checked;
+
 /* The rows of a reading, as lookups take them. */
 static inline star_counts star_counts_of(star_reading reading)
 {
@@ -274,6 +282,14 @@ static inline star_counts star_counts_of_written(star_written written)
 {
     star_counts counts = {written.tokens, written.sets, written.names, written.packets,
                           written.values};
+    return counts;
+}
+
+/* The rows of a check, as lookups take them. */
+static inline star_counts star_counts_of_checked(star_checked checked)
+{
+    star_counts counts = {checked.tokens, checked.sets, checked.names, checked.packets,
+                          checked.values};
     return counts;
 }
 
@@ -449,6 +465,28 @@ star_written star_write(const uint8_t *file, size_t file_len,
                         uint32_t *packets, size_t packets_len,
                         uint32_t *values, size_t values_len,
                         uint8_t *out, size_t out_len);
+
+/*
+ * Reads a file and answers whether it may go to a reader that takes names and
+ * codes of STAR_OLD_NAME_BYTES at most and else has the same rules: yes if every
+ * name, its underscore included, and every block and frame code has 32 bytes or
+ * fewer. What follows a $ does not count; it has no limit in either reader.
+ *
+ * After yes, that reader answers what star_read answers, whatever tables it is
+ * lent, and leaves the same words in them. After no, it answers refusal 4 at the
+ * first token whose name or code is longer.
+ *
+ * Refusals: those of star_read; yes is then 0.
+ * Afterwards: accepted, yes is 1 or 0, the place is 0, the tables hold the
+ * reading as star_read leaves them, and the counts are answered. Refused, every
+ * word of every table is 0 and the counts are 0.
+ */
+star_checked star_fits_32(const uint8_t *file, size_t file_len,
+                          uint32_t *tokens, size_t tokens_len,
+                          uint32_t *sets, size_t sets_len,
+                          uint32_t *names, size_t names_len,
+                          uint32_t *packets, size_t packets_len,
+                          uint32_t *values, size_t values_len);
 
 #ifdef __cplusplus
 }

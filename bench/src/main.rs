@@ -9,8 +9,8 @@
 //! of each name row that it passes.
 //! `tackturnel-bench --list` prints the cases, `--list numbers` those of numbers,
 //! `--list lookups` those of lookups.
-//! `tackturnel-bench --once case read|write` makes everything ready and makes
-//! one call, for counting its instructions; it prints the file's bytes.
+//! `tackturnel-bench --once case read|write|fits_32` makes everything ready and
+//! makes one call, for counting its instructions; it prints the file's bytes.
 //! `tackturnel-bench --once numbers-case number_of` makes one call for each text
 //! and prints how many there are.
 //! `tackturnel-bench --once lookup-case find_name` looks up each name of a case of
@@ -65,6 +65,12 @@ impl Ready {
         black_box(&self.out);
     }
 
+    fn fits_32(&mut self) {
+        let checked = star::fits_32(black_box(&self.file), TablesMut::of(&mut self.tables));
+        assert_eq!(checked.refusal, 0, "refused at {}", checked.place);
+        black_box(&self.tables);
+    }
+
     fn copy(&mut self, to: &mut [u8]) {
         to.copy_from_slice(black_box(&self.file));
         black_box(to);
@@ -109,6 +115,7 @@ fn once(case: Case, call: &str) {
     match call {
         "read" => ready.read(),
         "write" => ready.write(),
+        "fits_32" => ready.fits_32(),
         _ => fail(&format!("no such call: {call}")),
     }
     println!("{}", ready.file.len());

@@ -26,5 +26,7 @@ pub mod raw;
 #[allow(unsafe_code)]
 pub mod star;
 
-pub use raw::{Compared, Counts, Found, Number, Part, Reading, Value, ValueNumber, Written};
+pub use raw::{
+    Checked, Compared, Counts, Found, Number, Part, Reading, Value, ValueNumber, Written,
+};
 pub use star::{NumberForm, Tables, TablesMut};

@@ -93,8 +93,11 @@ pub const STAR_PACKETS_WIDTH: usize = 3;
 pub const STAR_VALUES_WIDTH: usize = 3;
 /// The most bytes of a file and of a plain form.
 pub const STAR_MOST_BYTES: usize = 1_048_576;
-/// The most bytes of a name, its underscore included, and of a block or frame code.
-pub const STAR_MOST_NAME_BYTES: usize = 32;
+/// The most bytes of a name, its underscore included, and of a block or frame code:
+/// the limit of CIF 1.1.
+pub const STAR_MOST_NAME_BYTES: usize = 75;
+/// The most bytes of a name or code that readers before this limit was raised take.
+pub const STAR_OLD_NAME_BYTES: usize = 32;
 /// The most levels of a loop.
 pub const STAR_MOST_LEVELS: usize = 8;
 /// The most that the digits of a number, and those of its uncertainty, may be: 2 to the 53.
@@ -298,6 +301,28 @@ pub struct Written {
     pub values: u32,
 }
 
+/// What a check of a file answers: as reading, and yes or no.
+#[repr(C)]
+#[derive(Clone, Copy, Debug, Default, PartialEq, Eq)]
+pub struct Checked {
+    /// 0 when accepted.
+    pub refusal: u32,
+    /// The place of the refusal.
+    pub place: u32,
+    /// 1 for yes, 0 for no and when refused.
+    pub yes: u32,
+    /// Rows of table 1.
+    pub tokens: u32,
+    /// Rows of table 2.
+    pub sets: u32,
+    /// Rows of table 3.
+    pub names: u32,
+    /// Rows of table 4.
+    pub packets: u32,
+    /// Rows of table 5.
+    pub values: u32,
+}
+
 // ----------------------------------------------------------------- calls
 
 extern "C" {
@@ -456,4 +481,20 @@ extern "C" {
         out: *mut u8,
         out_len: usize,
     ) -> Written;
+
+    /// See include/star.h.
+    pub fn star_fits_32(
+        file: *const u8,
+        file_len: usize,
+        tokens: *mut u32,
+        tokens_len: usize,
+        sets: *mut u32,
+        sets_len: usize,
+        names: *mut u32,
+        names_len: usize,
+        packets: *mut u32,
+        packets_len: usize,
+        values: *mut u32,
+        values_len: usize,
+    ) -> Checked;
 }

@@ -5,7 +5,9 @@
 //! nothing else.
 
 use crate::raw;
-use crate::raw::{Compared, Counts, Found, Number, Part, Reading, Value, ValueNumber, Written};
+use crate::raw::{
+    Checked, Compared, Counts, Found, Number, Part, Reading, Value, ValueNumber, Written,
+};
 
 /// The five tables, lent to lookups.
 #[derive(Clone, Copy, Debug)]
@@ -22,7 +24,7 @@ pub struct Tables<'a> {
     pub values: &'a [u32],
 }
 
-/// The five tables, lent to reading and writing.
+/// The five tables, lent to the calls that read a file.
 #[derive(Debug)]
 pub struct TablesMut<'a> {
     /// Kind, start and end of content.
@@ -73,6 +75,26 @@ impl Written {
     }
 
     /// The reading that writing answers along with its length.
+    pub fn reading(&self) -> Reading {
+        Reading {
+            refusal: self.refusal,
+            place: self.place,
+            tokens: self.tokens,
+            sets: self.sets,
+            names: self.names,
+            packets: self.packets,
+            values: self.values,
+        }
+    }
+}
+
+impl Checked {
+    /// The row counts, as lookups take them.
+    pub fn counts(&self) -> Counts {
+        self.reading().counts()
+    }
+
+    /// The reading that a check answers along with yes or no.
     pub fn reading(&self) -> Reading {
         Reading {
             refusal: self.refusal,
@@ -149,48 +171,44 @@ pub const fn plain_room(bytes: usize) -> usize {
     raw::star_plain_bytes(bytes)
 }
 
+/// Calls what reads a file, with the tables and what else it takes.
+macro_rules! fill {
+    ($call:ident, $file:expr, $tables:expr $(, $more:expr)*) => {
+        // SAFETY: every range is a slice, and those lent mutably are apart from all others.
+        unsafe {
+            raw::$call(
+                $file.as_ptr(),
+                $file.len(),
+                $tables.tokens.as_mut_ptr(),
+                $tables.tokens.len(),
+                $tables.sets.as_mut_ptr(),
+                $tables.sets.len(),
+                $tables.names.as_mut_ptr(),
+                $tables.names.len(),
+                $tables.packets.as_mut_ptr(),
+                $tables.packets.len(),
+                $tables.values.as_mut_ptr(),
+                $tables.values.len(),
+                $($more),*
+            )
+        }
+    };
+}
+
 /// Reads a file into the tables.
 pub fn read(file: &[u8], tables: TablesMut<'_>) -> Reading {
-    // SAFETY: every range is a slice, and those lent mutably are apart from all others.
-    unsafe {
-        raw::star_read(
-            file.as_ptr(),
-            file.len(),
-            tables.tokens.as_mut_ptr(),
-            tables.tokens.len(),
-            tables.sets.as_mut_ptr(),
-            tables.sets.len(),
-            tables.names.as_mut_ptr(),
-            tables.names.len(),
-            tables.packets.as_mut_ptr(),
-            tables.packets.len(),
-            tables.values.as_mut_ptr(),
-            tables.values.len(),
-        )
-    }
+    fill!(star_read, file, tables)
 }
 
 /// Reads a file into the tables and writes its plain form.
 pub fn write(file: &[u8], tables: TablesMut<'_>, out: &mut [u8]) -> Written {
-    // SAFETY: every range is a slice, and those lent mutably are apart from all others.
-    unsafe {
-        raw::star_write(
-            file.as_ptr(),
-            file.len(),
-            tables.tokens.as_mut_ptr(),
-            tables.tokens.len(),
-            tables.sets.as_mut_ptr(),
-            tables.sets.len(),
-            tables.names.as_mut_ptr(),
-            tables.names.len(),
-            tables.packets.as_mut_ptr(),
-            tables.packets.len(),
-            tables.values.as_mut_ptr(),
-            tables.values.len(),
-            out.as_mut_ptr(),
-            out.len(),
-        )
-    }
+    fill!(star_write, file, tables, out.as_mut_ptr(), out.len())
+}
+
+/// Reads a file into the tables and answers whether every name and code fits 32
+/// bytes, as older readers require.
+pub fn fits_32(file: &[u8], tables: TablesMut<'_>) -> Checked {
+    fill!(star_fits_32, file, tables)
 }
 
 /// Calls a lookup with the file, the tables, the counts and what else it takes.

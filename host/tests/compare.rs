@@ -23,21 +23,12 @@ fn require(group: &str, tally: &Tally, refusals: &[usize]) {
     }
 }
 
-fn some_file(rng: &mut Rng) -> Vec<u8> {
-    match rng.below(8) {
-        0 | 1 => generate::valid(rng),
-        2..=4 => generate::damaged(rng),
-        5 | 6 => generate::soup(rng),
-        _ => generate::bytes(rng),
-    }
-}
-
 #[test]
 fn generated_files() {
     let mut tally = Tally::default();
     seeds("generated files", 200_000, 40, |seed| {
         let rng = &mut Rng::new(seed);
-        let file = some_file(rng);
+        let file = generate::any(rng);
         let mut spares = vec![[0; 5], [9; 5]];
         for table in 0..5 {
             let mut short = [1; 5];
@@ -65,7 +56,7 @@ fn generated_files() {
 fn writing_into_every_room() {
     seeds("writing into every room", 8_000, 8, |seed| {
         let rng = &mut Rng::new(seed + 1_000_000);
-        let file = some_file(rng);
+        let file = generate::any(rng);
         let mut spare = [0; 5];
         spare[rng.below(5)] = rng.pick(&[-1, 0, 1]);
         for spare_out in -12..4 {
@@ -79,7 +70,7 @@ fn room_by_length() {
     let mut tally = Tally::default();
     seeds("room by length", 20_000, 8, |seed| {
         let rng = &mut Rng::new(seed + 6_000_000);
-        let file = if rng.once_in(2) { generate::valid(rng) } else { some_file(rng) };
+        let file = if rng.once_in(2) { generate::valid(rng) } else { generate::any(rng) };
         let answer = check("room by length", seed, &file, |file| by_length(seed, file));
         tally[answer.refusal as usize] += 1;
     });

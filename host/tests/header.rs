@@ -11,7 +11,7 @@ use std::path::Path;
 use std::process::Command;
 
 use tackturnel::{
-    raw, Compared, Counts, Found, Number, Part, Reading, Value, ValueNumber, Written,
+    raw, Checked, Compared, Counts, Found, Number, Part, Reading, Value, ValueNumber, Written,
 };
 
 const HEADER: &str = include_str!("../../include/star.h");
@@ -21,7 +21,7 @@ macro_rules! constants {
     ($($name:ident)*) => { [$((stringify!($name), raw::$name as u64)),*] };
 }
 
-const CONSTANTS: [(&str, u64); 45] = constants! {
+const CONSTANTS: [(&str, u64); 46] = constants! {
     STAR_OK STAR_TOO_LARGE STAR_BAD_BYTE STAR_BAD_WORD STAR_TOO_LONG STAR_OPEN_QUOTE
     STAR_OPEN_TEXT STAR_TOO_SHORT STAR_MISPLACED STAR_TAKEN STAR_INCOMPLETE STAR_TOO_DEEP
     STAR_GLOBAL STAR_NOT_FOUND STAR_OUTSIDE
@@ -32,7 +32,8 @@ const CONSTANTS: [(&str, u64); 45] = constants! {
     STAR_NUMBER_FLOAT STAR_NUMBER_UNCERTAIN STAR_NUMBER_UNKNOWN STAR_NUMBER_NOT_APPLICABLE
     STAR_NUMBER_TOO_WIDE STAR_NUMBER_TEXT
     STAR_TOKENS_WIDTH STAR_SETS_WIDTH STAR_NAMES_WIDTH STAR_PACKETS_WIDTH STAR_VALUES_WIDTH
-    STAR_MOST_BYTES STAR_MOST_NAME_BYTES STAR_MOST_LEVELS STAR_MOST_WHOLE STAR_MOST_POWER
+    STAR_MOST_BYTES STAR_MOST_NAME_BYTES STAR_OLD_NAME_BYTES STAR_MOST_LEVELS STAR_MOST_WHOLE
+    STAR_MOST_POWER
 };
 
 /// A function of a file's length.
@@ -73,7 +74,7 @@ macro_rules! layout {
 
 type Layout = (&'static str, usize, Vec<(&'static str, usize, usize)>);
 
-fn layouts() -> [Layout; 9] {
+fn layouts() -> [Layout; 10] {
     [
         layout!("star_reading" Reading refusal place tokens sets names packets values),
         layout!("star_counts" Counts tokens sets names packets values),
@@ -84,6 +85,7 @@ fn layouts() -> [Layout; 9] {
         layout!("star_number" Number form value uncertainty),
         layout!("star_value_number_t" ValueNumber refusal form value uncertainty),
         layout!("star_written" Written refusal place length tokens sets names packets values),
+        layout!("star_checked" Checked refusal place yes tokens sets names packets values),
     ]
 }
 
@@ -108,6 +110,7 @@ fn program() -> (String, String) {
     for (at, field) in ["tokens", "sets", "names", "packets", "values"].into_iter().enumerate() {
         facts.push((format!("star_counts_of(reading).{field}"), at as u64 + 3));
         facts.push((format!("star_counts_of_written(written).{field}"), at as u64 + 13));
+        facts.push((format!("star_counts_of_checked(checked).{field}"), at as u64 + 22));
     }
 
     let mut source = String::from("#include \"star.h\"\n#include <stdio.h>\n\n");
@@ -120,6 +123,7 @@ fn program() -> (String, String) {
          star_reading reading = {1, 2, 3, 4, 5, 6, 7};\n\
          star_written written = {10, 11, 12, 13, 14, 15, 16, 17};\n\
          star_compared compared = {true, 18};\n\
+         star_checked checked = {19, 20, 21, 22, 23, 24, 25, 26};\n\
          uint32_t refusal = reading.refusal;\n\
          if (refusal != STAR_TOO_LARGE)\n    return 1;\n\
          switch (refusal) { case STAR_OK: return 1; case STAR_TOO_LARGE: break; default: return 1; }\n",

@@ -4,10 +4,10 @@ use std::collections::HashSet;
 use std::process::Command;
 
 use tackturnel::{raw, star, Counts, NumberForm, Reading, Tables, TablesMut, Written};
-use tackturnel_tests_support::notation::{escaped, number_vectors, vectors};
+use tackturnel_tests_support::notation::{checked_vectors, escaped, number_vectors, vectors};
 use tackturnel_tests_support::reference;
 
-/// The answers of both calls on a file, tables of 900 words and an output of
+/// The answers of reading and writing on a file, tables of 900 words and an output of
 /// 2,000 bytes, all filled with 7s before.
 fn answers(file: &[u8]) -> (Reading, [Vec<u32>; 5], Written, Vec<u8>) {
     let mut tables: [Vec<u32>; 5] = std::array::from_fn(|_| vec![7; 900]);
@@ -59,6 +59,20 @@ fn number_vectors_are_answered() {
         let number = star::number_of(vector.kind, &vector.content);
         let answer = (number.form, number.value.to_bits(), number.uncertainty.to_bits());
         assert_eq!(answer, vector.answer, "line {}: {}", vector.line, escaped(&vector.content));
+    }
+}
+
+#[test]
+fn vectors_of_checks_are_answered() {
+    let list = checked_vectors(include_str!("../vectors/104.txt"));
+    assert_eq!(list.len(), 25);
+    for vector in list {
+        let shown = format!("line {}: {}", vector.line, escaped(&vector.file));
+        let mut tables: [Vec<u32>; 5] = std::array::from_fn(|_| vec![7; 900]);
+        let checked = star::fits_32(&vector.file, TablesMut::of(&mut tables));
+        assert_eq!(checked, vector.answer, "{shown}");
+        let (reading, read_tables, ..) = answers(&vector.file);
+        assert_eq!((checked.reading(), tables), (reading, read_tables), "{shown}");
     }
 }
 
@@ -194,7 +208,10 @@ fn measurement_is_read() {
     let reading = star::read(file.as_bytes(), TablesMut::of(&mut tables));
     assert_eq!(reading, expected);
     assert_eq!(tables, expected_tables);
-    let (tables, counts) = (Tables::of(&tables), reading.counts());
+    let checked = star::fits_32(file.as_bytes(), TablesMut::of(&mut tables));
+    assert_eq!((checked.yes, checked.reading()), (1, reading));
+    assert_eq!(tables, expected_tables);
+    let (tables, counts) = (Tables::of(&tables), checked.counts());
     let block = star::find_block(file.as_bytes(), tables, counts, b"quartz_17").row;
     let frame = star::find_frame(file.as_bytes(), tables, counts, block, b"counter").row;
     let value = |set: u32, name: &str, k: u32| {
@@ -409,6 +426,12 @@ fn constants_name_the_answers() {
         ("global_".into(), raw::STAR_GLOBAL),
     ] {
         assert_eq!(read_by_length(&file, 0, 0).refusal, refusal, "{}", &file[..file.len().min(99)]);
+    }
+    for (bytes, yes) in [(raw::STAR_OLD_NAME_BYTES, 1), (raw::STAR_OLD_NAME_BYTES + 1, 0)] {
+        let file = name(bytes);
+        let mut tables = star::room(file.len()).map(|words| vec![7; words]);
+        let checked = star::fits_32(file.as_bytes(), TablesMut::of(&mut tables));
+        assert_eq!((checked.refusal, checked.yes), (raw::STAR_OK, yes), "{file}");
     }
 
     let file = b"data_a save_f save_ loop_ _x loop_ _y w stop_ $f stop_ 's' stop_ \"d\" stop_\n;t\n; stop_";

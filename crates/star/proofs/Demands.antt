@@ -9,6 +9,7 @@ use Rattle.star_read.proofs.Demand3.{accepted-exactly, one-reading, rows-of-rea
 use Rattle.star_read.proofs.RefusalNumber.{refusal-number, numbers-exclude}
 use Rattle.star_read.proofs.Settled.{reading-settled, one-outcome}
 use Rattle.star_read.proofs.Windows.{windows-reads}
+use Rattle.star_read.proofs.Longest.{old-files-read-as-before, old-bench-refuses, old-bench-same-or-four}
 use Rattle.star_find.proofs.Demand1.{lookups-answer, values-answer, span-part}
 use Rattle.star_find.proofs.Lookup.{lookup-by-name, lookup-block, lookup-frame, values-in-order}
 use Rattle.star_number.proofs.Exactly.{number-exact, number-pieces}
@@ -18,10 +19,11 @@ use Rattle.star_number.proofs.Known.{numbers-known}
 use Rattle.star_number.proofs.InOrder.{numbers-in-order, numbers-answer}
 use Rattle.star_write.proofs.Demand1.{write-answers}
 use Rattle.star_write.proofs.RoundTrip.{round-trip, writes-again}
-use Rattle.star.specs.Demands.{Demand1, Demand2, Demand3, Numbers, LineEnds, Comparisons}
+use Rattle.star_check.proofs.OldBench.{fits-32, fits-32-no, fits-answers}
+use Rattle.star.specs.Demands.{Demand1, Demand2, Demand3, Numbers, LineEnds, Comparisons, LongerNames}
 
 pub demand-1 : Demand1
-demand-1 = (read-answers, lookups-answer, values-answer, numbers-answer, write-answers)
+demand-1 = (read-answers, lookups-answer, values-answer, numbers-answer, write-answers, fits-answers)
 
 pub demand-2 : Demand2
 demand-2 = (today-usable, rows-of-reading, lookup-block, lookup-frame, values-in-order, span-part, round-trip, writes-again)
@@ -48,3 +50,6 @@ line-ends = (refl, no-pair-as-before, windows-splits, windows-reads)
 
 pub comparisons : Comparisons
 comparisons = (compare-equal, compare-pairs, compare-stops)
+
+pub longer-names : LongerNames
+longer-names = (refl, refl, old-files-read-as-before, old-bench-refuses, old-bench-same-or-four, fits-32, fits-32-no)

@@ -3,17 +3,18 @@
 use mathlib.Core.Path.{_≡_}
 use mathlib.Core.Bool.{true}
 use Rattle.star_text.specs.Demands.{CompareEqual, ComparePairs, CompareStops}
-use Rattle.star_lex.specs.Rules.{today}
+use Rattle.star_lex.specs.Rules.{today, oldBench}
 use Rattle.star_lex.specs.Demands.{NoPairAsBefore, WindowsSplits}
-use Rattle.star_read.specs.Demands.{Usable, AcceptedExactly, OneReading, RowsOfReading, PlaceOfRefusal, RefusalNumber, NumbersExclude, ReadingSettled, OneOutcome, ReadAnswers, WindowsReads}
+use Rattle.star_read.specs.Demands.{Usable, AcceptedExactly, OneReading, RowsOfReading, PlaceOfRefusal, RefusalNumber, NumbersExclude, ReadingSettled, OneOutcome, ReadAnswers, WindowsReads, OldFilesReadAsBefore, OldBenchRefuses, OldBenchSameOrFour}
 use Rattle.star_find.specs.Demands.{LookupByName, LookupBlock, LookupFrame, ValuesInOrder, SpanPart, LookupsAnswer, ValuesAnswer}
 use Rattle.star_number.specs.Demands.{NumberExact, NumberPieces, WholeExact, PowerExact, RoundedOnce, FloatsFinite, NumbersKnown, NumbersInOrder, NumbersAnswer}
 use Rattle.star_write.specs.Demands.{RoundTrip, WritesAgain, WriteAnswers}
+use Rattle.star_check.specs.Demands.{Fits32, Fits32No, FitsAnswers}
 
 -- for every input of every call the number is 0 or one that the call may give, with its place in range; on a refusal what was lent for writing is 0,
--- and so are counts, length, kind, packet and row; reading and writing answer 0 only with a reading
+-- and so are counts, length, kind, packet, row and yes; reading, writing and the check answer 0 only with a reading
 abbrev pub Demand1 : Type 0
-Demand1 = ReadAnswers × LookupsAnswer × ValuesAnswer × NumbersAnswer × WriteAnswers
+Demand1 = ReadAnswers × LookupsAnswer × ValuesAnswer × NumbersAnswer × WriteAnswers × FitsAnswers
 
 -- an accepted file gives the rows of its reading; blocks, frames and values are found in them, each value as that part of the file; the plain form
 -- reads back the same, and is written again as the same bytes
@@ -41,3 +42,9 @@ LineEnds = (today .pairs ≡ true) × NoPairAsBefore × WindowsSplits × Windows
 -- differs, or all, and so no more than there are bytes
 abbrev pub Comparisons : Type 0
 Comparisons = CompareEqual × ComparePairs × CompareStops
+
+-- specification 14.12 and 18: names and codes have at most 75 bytes, and 32 at a bench with the earlier limit; what a lower limit accepts is accepted with the same tokens and rows; an
+-- accepted file with a longer name or code is refusal 4 there, at the first such, and for any file and any tables the lower limit gives the same outcome or refusal 4; and the check
+-- says yes exactly when such a bench accepts the file
+abbrev pub LongerNames : Type 0
+LongerNames = (today .longest ≡ 75) × (oldBench .longest ≡ 32) × OldFilesReadAsBefore × OldBenchRefuses × OldBenchSameOrFour × Fits32 × Fits32No

@@ -1,4 +1,5 @@
 // What other languages call: each function is the library's own of that name, with its contract. include/star.h is the C header.
+use star_check::Checked;
 use star_find::Counts;
 use star_find::Found;
 use star_find::Span;
@@ -15,6 +16,7 @@ ghost use Rattle.star_find.specs.Find.{lent, findBlock, findFrame, findName, va
 ghost use Rattle.star_number.specs.Taken.{numberIn};
 ghost use Rattle.star_number.specs.Forms.{formOf, valueNumber, valueFormOf};
 ghost use Rattle.star_write.specs.Answer.{Writes};
+ghost use Rattle.star_check.specs.Fits.{FitsChecked};
 
 // Reads a file into the five tables. On a refusal the counts and every word of every table are 0.
 #[no_mangle]
@@ -210,4 +212,22 @@ pub extern "C" fn star_write(
         (now (out .entry)) (now (out .exit)) r ⌝ }
 {
     star_write::write(file, tokens, sets, names, packets, values, out)
+}
+
+// Reads a file into the five tables and answers whether every name and code has at most 32 bytes. After yes or no the tables hold the reading; on a refusal yes, counts and
+// tables are all 0.
+#[no_mangle]
+pub extern "C" fn star_fits_32(
+    file: &[u8],
+    tokens: &mut [u32],
+    sets: &mut [u32],
+    names: &mut [u32],
+    packets: &mut [u32],
+    values: &mut [u32],
+) -> Checked
+    ensures { λ r. ⌜ FitsChecked (now (file .entry))
+        (tables (now (tokens .entry)) (now (sets .entry)) (now (names .entry)) (now (packets .entry)) (now (values .entry)))
+        (tables (now (tokens .exit)) (now (sets .exit)) (now (names .exit)) (now (packets .exit)) (now (values .exit))) r ⌝ }
+{
+    star_check::fits_32(file, tokens, sets, names, packets, values)
 }

@@ -1,16 +1,53 @@
 // Calls of the library, over the last file and the tables that are lent.
 use crate::plain;
+use star_check::Checked;
 use star_find::Counts;
 use star_find::Found;
 use star_show::float;
 use star_show::kept;
 use star_show::print;
+use star_show::table::FILLED;
 use star_show::words;
 
 // Reads a file and prints what came out.
 pub fn read(file: &[u8], kept: &mut [u32]) {
     print::bar();
     kept::show(file, kept);
+}
+
+// Reads a file into tables of as many words as are lent, none of them 0 before, asks whether its names and codes fit, and keeps what is left.
+fn check(file: &[u8], kept: &mut [u32]) -> Checked {
+    let mut tokens = [FILLED; 1024];
+    let mut sets = [FILLED; 1024];
+    let mut names = [FILLED; 1024];
+    let mut packets = [FILLED; 1024];
+    let mut values = [FILLED; 1024];
+    let checked = star_check::fits_32(
+        file,
+        kept::lend(&mut tokens, kept, 1),
+        kept::lend(&mut sets, kept, 2),
+        kept::lend(&mut names, kept, 3),
+        kept::lend(&mut packets, kept, 4),
+        kept::lend(&mut values, kept, 5),
+    );
+    kept::keep_tables(kept, &tokens, &sets, &names, &packets, &values);
+    kept::keep_counts(
+        kept,
+        checked.tokens,
+        checked.sets,
+        checked.names,
+        checked.packets,
+        checked.values,
+    );
+    checked
+}
+
+// Asks whether the names and codes of a file fit and prints what came out.
+pub fn fits(file: &[u8], kept: &mut [u32]) {
+    let checked = check(file, kept);
+    print::bar();
+    print::three(checked.refusal, checked.place, checked.yes);
+    kept::print_kept(checked.refusal, kept);
 }
 
 // Writes the plain form of a file into so many bytes and prints what came out.

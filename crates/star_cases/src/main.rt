@@ -3,6 +3,7 @@
 //                             printed without its first word
 //     1048576 bytes           the same for a file of so many bytes that no line can hold
 //     read FILE               reads a file into the tables that are lent
+//     fits FILE               reads a file into the tables that are lent and asks whether its names and codes have at most 32 bytes; 1 for yes, 0 for no
 //     write N                 writes the plain form of the last file into N bytes
 //     set T I W               makes word I of table T, counted from 0, be W; words 1 to 5 of table 0 are the five counts, and words 6 to 10 how
 //                             many words of each table are lent
@@ -77,6 +78,7 @@ fn run_on(line: &[u8], given: &[u8], file: &[u8], kept: &mut [u32]) {
         b'c' => run_file(file),
         b'1' => run_long(words::number(line)),
         b'r' => calls::read(file, kept),
+        b'f' => calls::fits(file, kept),
         b'w' => calls::write(file, words::number(given)),
         b's' => kept::set(given, kept),
         b'l' => calls::look(given, file, kept),

@@ -12,6 +12,7 @@ pub mod Passing
 pub mod Walking
 pub mod Formed
 pub mod Limits
+pub mod Longest
 pub mod Refusals
 pub mod Marks
 pub mod RowsOf

@@ -13,6 +13,7 @@ pub mod Parts
 pub mod Bound
 pub mod PlainSplit
 pub mod NoPair
+pub mod Longest
 pub mod Windows
 pub mod Splitting
 pub mod Steps

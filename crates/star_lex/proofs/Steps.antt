@@ -24,7 +24,7 @@ pub data Steps (rules : Rules) : ℕ → Bool → ℕ → List ℕ → List Plac
   takes : {line : Bool} {at : ℕ} {b : ℕ} {bs : List ℕ} {ps : List Placed} (more : ℕ) (t : Token) → lexeme rules line b bs ≡ token more t
       → Steps rules more (isTerminate b) (suc at) bs ps → Steps rules zero line at (b ∷ bs) (record { at = at; token = t } ∷ ps)
 
-before-accepted : (p : Placed) (s : Split) (ps : List Placed) → before p s ≡ accepted ps → (qs : List Placed) × (s ≡ accepted qs) × (ps ≡ p ∷ qs)
+pub before-accepted : (p : Placed) (s : Split) (ps : List Placed) → before p s ≡ accepted ps → (qs : List Placed) × (s ≡ accepted qs) × (ps ≡ p ∷ qs)
 unfolding before then
 before-accepted p (refused n place) ps e = impossible cc
 before-accepted p (accepted qs) ps e = (qs, refl, cc)

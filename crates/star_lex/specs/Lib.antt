@@ -6,4 +6,5 @@ pub mod Answer
 pub mod LineEnd
 pub mod Table
 pub mod Holds
+pub mod Fits
 pub mod Demands

@@ -14,7 +14,15 @@ pub record Rules : Type 0 where
   pub headerStops : Bool
 
 abbrev pub today : Rules
-today = record { pairs = true; longest = 32; levels = 8; headerStops = true }
+today = record { pairs = true; longest = 75; levels = 8; headerStops = true }
+
+-- the same rules, with names and codes of at most so many bytes
+abbrev pub atLongest : Rules → ℕ → Rules
+atLongest rules n = record { pairs = rules .pairs; longest = n; levels = rules .levels; headerStops = rules .headerStops }
+
+-- the rules of a bench that has the earlier limit
+abbrev pub oldBench : Rules
+oldBench = atLongest today 32
 
 -- the same rules, with so many levels
 abbrev pub atLevels : Rules → ℕ → Rules

@@ -1,4 +1,4 @@
--- What table 1 says of a file: specification 7.2. Believed; lookup (star_find's Find) and the contracts of `content`, `has_content`, `first_byte` cite it.
+-- What table 1 says of a file: specification 7.2. Believed; lookup (star_find's Find) and the contracts of `content`, `has_content`, `first_byte` and of star_check's inner functions cite it.
 use mathlib.Core.Bool.{cond, _&&_}
 use mathlib.Core.List.{List, []}
 use mathlib.Core.Option.{Option, none, some}

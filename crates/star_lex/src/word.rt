@@ -10,7 +10,7 @@ ghost use Rattle.star_lex.specs.Split.{after, limited, wordLexeme, alone
 ghost use Rattle.star_lex.specs.Answer.{isSome, wordAnswer};
 
 // The most bytes that a name or a code may have.
-const LONGEST: usize = 32;
+const LONGEST: usize = 75;
 
 // The kind of a word, or its refusal.
 pub enum Word {

@@ -11,7 +11,6 @@ use Rattle.star_text.specs.Outcome.{refused, accepted, then}
 use Rattle.star_text.proofs.Outcome.{refused≢accepted, accepted-same, then-accepted}
 use Rattle.star_lex.specs.Rules.{Rules}
 use Rattle.star_lex.specs.Tokens.{Placed}
-use Rattle.star_lex.specs.Split.{tokensBy}
 use Rattle.star_lex.specs.Answer.{tokensInBy}
 use Rattle.star_lex.proofs.Cases.{impossible}
 use Rattle.star_lex.proofs.WellFormed.{well-formed-by}
@@ -49,15 +48,23 @@ reading-accepted rules ps size r =
 pub one-reading : OneReading
 one-reading rules ts r s = unambiguous rules (r .tree) (s .tree) (r .whole) (s .whole) (r .yield ∙ sym (s .yield))
 
-pub rows-of-reading : RowsOfReading
+-- the tokens of a file that is read, their run and their names
+pub read-tokens : (rules : Rules) (file : List ℕ) (words : Sizes) (ps : List Placed) (rows : Rows) → readBy rules file words ≡ accepted (ps, rows)
+    → Tokenized rules file words ps × (run rules start (tokensOnly ps) noRows ≡ good rows) × Clean nothing (tokensOnly ps)
 unfolding readBy
-rows-of-reading rules usable file words ps rows e =
+read-tokens rules file words ps rows e =
     let (qs, d, h) = then-accepted (tokensInBy rules file (words .tokens)) _ (ps, rows) e in
     let v : (qs ≡ ps) × (run rules start (tokensOnly qs) noRows ≡ good rows) × Clean nothing (tokensOnly qs)
     = accepted-verdict rules qs ps (length file) rows _ (verdict rules qs (length file)) (fits-accepted words _ (ps, rows) h) in
-    let s : tokensBy rules file ≡ accepted qs = in-fits rules file (words .tokens) qs d .1 in
-    let r : (r : ReadingBy rules (tokensOnly qs)) × (rows ≡ rowsOf (r .tree)) = run-reading rules (usable .some-level) (tokensOnly qs) rows (well-formed-by rules file qs s) (v .1) (v .2) in
-    rw (← (v .0)) (s, r .0, r .1)
+    let f = in-fits rules file (words .tokens) qs d in
+    rw (← (v .0)) (record { small = f .0; splits = f .1; room = f .2 }, v .1, v .2)
+
+pub rows-of-reading : RowsOfReading
+rows-of-reading rules usable file words ps rows e =
+    let (f, ran, clean) = read-tokens rules file words ps rows e in
+    let r : (r : ReadingBy rules (tokensOnly ps)) × (rows ≡ rowsOf (r .tree))
+    = run-reading rules (usable .some-level) (tokensOnly ps) rows (well-formed-by rules file ps (f .splits)) ran clean in
+    (f .splits, r .0, r .1)
 
 -- a file whose tokens have a reading is read with its rows, where there is room
 pub reads-rows : (rules : Rules) (file : List ℕ) (words : Sizes) (ps : List Placed) → Tokenized rules file words ps → (r : ReadingBy rules (tokensOnly ps))

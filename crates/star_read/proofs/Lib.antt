@@ -17,3 +17,4 @@ pub mod Settling
 pub mod Starting
 pub mod Accepted
 pub mod Windows
+pub mod Longest

@@ -1,6 +1,6 @@
 -- What is demanded of reading: statements alone, over readings (star_grammar's specs/Reading.antt) and the split of a file. Believed; star's Demands cites it.
 use mathlib.Core.Path.{_≡_}
-use mathlib.Core.Bool.{true}
+use mathlib.Core.Bool.{true, false}
 use mathlib.Core.Logic.{_⊎_, _↔_}
 use mathlib.Core.List.{List, [], _∷_, _++_, map}
 use Prim.Native.Nat.{ℕ, _*_, _≤_, _<_}
@@ -8,16 +8,17 @@ use lib.ListN.{length}
 use Rattle.star_text.specs.Outcome.{refused, accepted}
 use Rattle.star_rows.specs.Widths.{tokenWidth, setWidth, nameWidth, packetWidth, valueWidth}
 use Rattle.star_text.specs.Bytes.{mostBytes}
-use Rattle.star_lex.specs.Rules.{Rules, atLevels}
+use Rattle.star_lex.specs.Rules.{Rules, atLevels, atLongest}
 use Rattle.star_lex.specs.Tokens.{Token, Placed, Each}
 use Rattle.star_lex.specs.Split.{tokensBy, tokensOf}
+use Rattle.star_lex.specs.Fits.{fits}
 use Rattle.star_lex.specs.Demands.{noPair, windows, windowsToken}
 use Rattle.star_grammar.specs.Tree.{File, fileYield, FileBy, IsName, IsValue}
 use Rattle.star_grammar.specs.Tables.{Rows, rowsOf}
 use Rattle.star_grammar.specs.Reading.{ReadingBy, Reading}
 use Rattle.star_read.specs.Answer.{readAnswer, Tables, zeroTables, tablesOf}
 use Rattle.star_read.specs.declared.Answer.{Answer}
-use Rattle.star_read.specs.Read.{ReadOutcome, Sizes, tokensOnly, readOf, readBy}
+use Rattle.star_read.specs.Read.{FileRows, ReadOutcome, Sizes, tokensOnly, readOf, readBy}
 
 -- rules by which every file that is begun can be completed: loops have a level, and names may be so long that a file within the size limit has not
 -- taken all of them
@@ -202,3 +203,30 @@ WindowsReads = (rules : Rules) → Usable rules → rules .pairs ≡ true → (f
     → noPair file ≡ true → readBy rules file words ≡ accepted (ps, rows) → length (windows file) ≤ mostBytes
     → (others : Sizes) → length ps * tokenWidth ≤ others .tokens → Room others rows
     → (qs : List Placed) × (readBy rules (windows file) others ≡ accepted (qs, rows)) × (tokensOnly qs ≡ map windowsToken (tokensOnly ps))
+
+-- a file that is accepted with a lower limit of names and codes is accepted, with the same tokens and rows
+abbrev pub OldFilesReadAsBefore : Type 0
+OldFilesReadAsBefore = (rules : Rules) (old : ℕ) → old ≤ rules .longest → (file : List ℕ) (words : Sizes) (read : FileRows)
+    → readBy (atLongest rules old) file words ≡ accepted read → readBy rules file words ≡ accepted read
+
+-- the place of the first name or code of more than so many bytes: its token's first byte
+pub record FirstLonger (most : ℕ) (ps : List Placed) (place : ℕ) : Type 0 where
+  pub earlier : List Placed
+  pub longer : Placed
+  pub later : List Placed
+  pub is : ps ≡ earlier ++ (longer ∷ later)
+  pub all-fit : Each (λ p. fits most (p .token) ≡ true) earlier
+  pub no-fit : fits most (longer .token) ≡ false
+  pub place-is : place ≡ longer .at
+
+-- an accepted file with a longer name or code is refusal 4 with the lower limit, at the first such, whatever tables are lent
+abbrev pub OldBenchRefuses : Type 0
+OldBenchRefuses = (rules : Rules) (old : ℕ) → old ≤ rules .longest → (file : List ℕ) (words : Sizes) (ps : List Placed) (rows : Rows)
+    → readBy rules file words ≡ accepted (ps, rows) → (place : ℕ) → FirstLonger old ps place
+    → (others : Sizes) → readBy (atLongest rules old) file others ≡ refused 4 place
+
+-- of any file and any tables a lower limit gives the same outcome or refusal 4
+abbrev pub OldBenchSameOrFour : Type 0
+OldBenchSameOrFour = (rules : Rules) (old : ℕ) → old ≤ rules .longest → (file : List ℕ) (words : Sizes)
+    → (readBy (atLongest rules old) file words ≡ readBy rules file words)
+    ⊎ ((place : ℕ) × (readBy (atLongest rules old) file words ≡ refused 4 place))

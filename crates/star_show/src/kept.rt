@@ -53,10 +53,9 @@ fn print_tables(kept: &[u32], between: &[u8]) {
     print_table(kept, 5);
 }
 
-// Prints refusal and place, and of an accepted file the counts and the rows of the five tables; of a refused one any count or word that is not 0.
-fn print_answer(answer: Answer, kept: &[u32]) {
-    print::two(answer.refusal, answer.place);
-    if answer.refusal == 0 {
+// Prints of an accepted file the counts and the rows of the five tables, and of a refused one any count or word that is not 0.
+pub fn print_kept(refusal: u32, kept: &[u32]) {
+    if refusal == 0 {
         print::bar();
         print::rows(table::part(kept, 1, 5), 5, 5);
         print::bar();
@@ -68,25 +67,25 @@ fn print_answer(answer: Answer, kept: &[u32]) {
 }
 
 // The words of a table that are lent, to be written.
-fn lend<'a, 'b>(table: &'a mut [u32], kept: &'b [u32], t: u32) -> &'a mut [u32] {
+pub fn lend<'a, 'b>(table: &'a mut [u32], kept: &'b [u32], t: u32) -> &'a mut [u32] {
     let end = table::least(lent_words(kept, t), table.len());
     &mut table[0..end]
 }
 
 // Keeps the five counts.
-fn keep_counts(kept: &mut [u32], answer: Answer) {
-    let counts = [
-        answer.tokens,
-        answer.sets,
-        answer.names,
-        answer.packets,
-        answer.values,
-    ];
-    table::copy(kept, 1, &counts);
+pub fn keep_counts(
+    kept: &mut [u32],
+    tokens: u32,
+    sets: u32,
+    names: u32,
+    packets: u32,
+    values: u32,
+) {
+    table::copy(kept, 1, &[tokens, sets, names, packets, values]);
 }
 
 // Keeps the words of five tables.
-fn keep_tables(
+pub fn keep_tables(
     kept: &mut [u32],
     tokens: &[u32],
     sets: &[u32],
@@ -117,14 +116,22 @@ pub(crate) fn read(file: &[u8], kept: &mut [u32]) -> Answer {
         lend(&mut values, kept, 5),
     );
     keep_tables(kept, &tokens, &sets, &names, &packets, &values);
-    keep_counts(kept, answer);
+    keep_counts(
+        kept,
+        answer.tokens,
+        answer.sets,
+        answer.names,
+        answer.packets,
+        answer.values,
+    );
     answer
 }
 
 // Reads a file, prints what came out and answers its refusal.
 pub fn show(file: &[u8], kept: &mut [u32]) -> u32 {
     let answer = read(file, kept);
-    print_answer(answer, kept);
+    print::two(answer.refusal, answer.place);
+    print_kept(answer.refusal, kept);
     answer.refusal
 }
 

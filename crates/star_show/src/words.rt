@@ -93,7 +93,7 @@ pub fn show(line: &[u8]) {
 // The place of the last line that has a file: this one, or the one before.
 pub fn last_of(b: u8, at: usize, last: usize) -> usize {
     match b {
-        b'c' | b'r' => at,
+        b'c' | b'r' | b'f' => at,
         _ => last,
     }
 }

@@ -33,6 +33,12 @@ unfolding then
 then-accepted (refused n place) f b e = impossible cc
 then-accepted (accepted a) f b e = (a, refl, e)
 
+-- the same goes on in the same way
+pub then-same : {A B : Type 0} (o : Outcome A) (f g : A → Outcome B) → ((a : A) → f a ≡ g a) → then o f ≡ then o g
+unfolding then
+then-same (refused n place) f g h = refl
+then-same (accepted a) f g h = h a
+
 -- a refusal is the first check's that fails
 pub need-refused {κ} : {A : Type 0} {P : Type κ} (holds : Bool) (n place : ℕ) (o : Outcome A) (m at : ℕ) → need holds n place o ≡ refused m at
     → (holds ≡ true → o ≡ refused m at → P) → (holds ≡ false → n ≡ m → place ≡ at → P) → P

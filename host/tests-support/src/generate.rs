@@ -8,7 +8,7 @@ use std::collections::HashSet;
 
 use tackturnel::Counts;
 
-use crate::{MOST_BYTES, WIDTHS};
+use crate::{MOST_BYTES, MOST_NAME_BYTES, OLD_NAME_BYTES, WIDTHS};
 
 // -------------------------------------------------------------- numbers
 
@@ -82,6 +82,9 @@ impl Piece {
 const BLANKS: [u8; 3] = [9, 11, 32];
 const TERMINATES: [u8; 3] = [10, 12, 13];
 const LINE_ENDS: [&[u8]; 4] = [b"\n", b"\x0c", b"\r", b"\r\n"];
+/// Lengths of names and codes: the limits, old and new, and one byte more.
+const AT_LIMITS: [usize; 4] =
+    [OLD_NAME_BYTES, OLD_NAME_BYTES + 1, MOST_NAME_BYTES, MOST_NAME_BYTES + 1];
 /// Bytes at which readers slip.
 const SHARP: &[u8] = b";;;'\"'\"#_$$ \n\t\r\x0b\x0c01az";
 
@@ -113,6 +116,13 @@ fn code(rng: &mut Rng, most: usize) -> Vec<u8> {
         5 => (0..most).map(|_| letter(rng)).collect(),
         _ => (0..rng.between(1, most)).map(|_| letter(rng)).collect(),
     }
+}
+
+/// What follows `$`: at times as long as a limit of names and codes, which does
+/// not hold for it.
+fn referred(rng: &mut Rng) -> Vec<u8> {
+    let count = if rng.once_in(4) { rng.pick(&AT_LIMITS) } else { rng.between(1, 50) };
+    (0..count).map(|_| letter(rng)).collect()
 }
 
 /// A word of kind 7, which may begin with `;`.
@@ -173,7 +183,7 @@ fn text(rng: &mut Rng) -> Vec<u8> {
 fn value(rng: &mut Rng) -> Piece {
     match rng.below(16) {
         0..=7 => Piece::word(plain_word(rng)),
-        8 | 9 => Piece::word([b"$".to_vec(), vec![letter(rng)], letters(rng, 50)].concat()),
+        8 | 9 => Piece::word([b"$".to_vec(), referred(rng)].concat()),
         10 | 11 => Piece::word([b"'".to_vec(), quotable(rng, b'\''), b"'".to_vec()].concat()),
         12 | 13 => Piece::word([b"\"".to_vec(), quotable(rng, b'"'), b"\"".to_vec()].concat()),
         _ => Piece::text(rng),
@@ -189,6 +199,8 @@ struct Builder<'r> {
     pieces: Vec<Piece>,
     /// About how many tokens there may be.
     size: usize,
+    /// How many bytes a name or code may have.
+    longest: usize,
 }
 
 impl Builder<'_> {
@@ -206,7 +218,9 @@ impl Builder<'_> {
     }
 
     /// A lead and a code that is not taken yet.
-    fn unique(&mut self, lead: &str, most: usize, taken: &mut Taken) {
+    fn unique(&mut self, lead: &str, taken: &mut Taken) {
+        // the underscore of a name counts
+        let most = self.longest - usize::from(lead == "_");
         loop {
             let code = code(self.rng, most);
             if taken.insert(code.clone()) {
@@ -219,7 +233,7 @@ impl Builder<'_> {
     fn file(&mut self) {
         let mut codes = Taken::new();
         for _ in 0..self.rng.pick(&[0, 1, 1, 1, 2, 3, 5]) {
-            self.unique("data_", 32, &mut codes);
+            self.unique("data_", &mut codes);
             self.set(true);
         }
     }
@@ -234,11 +248,11 @@ impl Builder<'_> {
             }
             match self.rng.below(6) {
                 0 | 1 => {
-                    self.unique("_", 31, &mut names);
+                    self.unique("_", &mut names);
                     self.value();
                 }
                 2 if block => {
-                    self.unique("save_", 32, &mut codes);
+                    self.unique("save_", &mut codes);
                     self.set(false);
                     self.word("save_");
                 }
@@ -253,7 +267,7 @@ impl Builder<'_> {
         for &count in &levels {
             self.word("loop_");
             for _ in 0..count {
-                self.unique("_", 31, names);
+                self.unique("_", names);
             }
         }
         let stops = if self.rng.once_in(2) { 0 } else { self.rng.below(depth) };
@@ -284,7 +298,8 @@ impl Builder<'_> {
 
 fn pieces(rng: &mut Rng) -> Vec<Piece> {
     let size = rng.pick(&[10, 30, 100, 300]);
-    let mut builder = Builder { rng, pieces: Vec::new(), size };
+    let longest = rng.pick(&[OLD_NAME_BYTES, OLD_NAME_BYTES, OLD_NAME_BYTES + 1, MOST_NAME_BYTES]);
+    let mut builder = Builder { rng, pieces: Vec::new(), size, longest };
     builder.file();
     builder.pieces
 }
@@ -384,12 +399,32 @@ fn damage_tokens(rng: &mut Rng, pieces: &mut Vec<Piece>) {
         return;
     }
     let (one, other) = (rng.below(pieces.len()), rng.below(pieces.len()));
-    match rng.below(5) {
+    match rng.below(6) {
         0 => pieces.swap(one, other),
         1 if one + 1 < pieces.len() => pieces.swap(one, one + 1),
         2 => pieces.insert(at, pieces[one].clone()),
         3 => pieces[one] = soup_piece(rng),
+        4 => lengthen(rng, pieces, one),
         _ => drop(pieces.remove(one)),
+    }
+}
+
+/// Gives a name or code a length at the limits: the first from this token on, else
+/// the first of all.
+fn lengthen(rng: &mut Rng, pieces: &mut [Piece], from: usize) {
+    let (before, after) = pieces.split_at_mut(from);
+    let found = after.iter_mut().chain(before).find_map(|piece| match piece.bytes[..] {
+        [b'_', ..] => Some((piece, 0)),
+        [b'd', b'a', b't', b'a', b'_', _, ..] => Some((piece, 5)),
+        [b's', b'a', b'v', b'e', b'_', _, ..] => Some((piece, 5)),
+        _ => None,
+    });
+    if let Some((piece, lead)) = found {
+        let length = lead + rng.pick(&AT_LIMITS);
+        piece.bytes.truncate(length);
+        while piece.bytes.len() < length {
+            piece.bytes.push(letter(rng));
+        }
     }
 }
 
@@ -417,16 +452,23 @@ fn soup_piece(rng: &mut Rng) -> Piece {
     const WORDS: &str = "data_a data_b data_c save_f save_g save_a save_ save_ save_ \
         loop_ loop_ loop_ loop_ loop_ stop_ stop_ stop_ stop_ _x _y _z _a _b _c _d _e _f \
         1 2 3 4 5 6 7 ? . $f $ ;b 'q' \"it's\" ''' '' C#N # DATA_b _data_ a global_";
-    const FAULTS: &str = "global_ data_ _ loop_x stop_1 global_a 'open \"a' \
-        _nnnnnnnnnnnnnnnnnnnnnnnnnnnnnnnn save_ccccccccccccccccccccccccccccccccc";
+    const FAULTS: &str = "global_ data_ _ loop_x stop_1 global_a 'open \"a'";
     const OPEN: [&str; 4] = ["\n;open", "\n;a\n;b", "\r\n;open\r", "\r\n;a\r\n;b"];
     match rng.below(60) {
         0 if rng.once_in(5) => Piece::word(rng.pick(&OPEN)),
         0 => Piece::word(one_of(rng, FAULTS)),
         1 => Piece::text(rng),
         2 => value(rng),
+        3 => Piece::word(at_limit(rng)),
         _ => Piece::word(one_of(rng, WORDS)),
     }
+}
+
+/// A name, heading or reference with a length at the limits.
+fn at_limit(rng: &mut Rng) -> Vec<u8> {
+    let (lead, counted) = rng.pick(&[("_", 1), ("data_", 0), ("save_", 0), ("$", 0)]);
+    let letters = rng.pick(&AT_LIMITS) - counted;
+    [lead.as_bytes(), &vec![b'n'; letters]].concat()
 }
 
 /// A row of tokens of any kinds.
@@ -466,6 +508,16 @@ pub fn bytes(rng: &mut Rng) -> Vec<u8> {
         file.push(byte);
     }
     file
+}
+
+/// A file of any sort: accepted, damaged, of tokens or bytes without order.
+pub fn any(rng: &mut Rng) -> Vec<u8> {
+    match rng.below(8) {
+        0 | 1 => valid(rng),
+        2..=4 => damaged(rng),
+        5 | 6 => soup(rng),
+        _ => bytes(rng),
+    }
 }
 
 // ---------------------------------------------------------- large files
@@ -545,13 +597,17 @@ fn kindred(family: usize, number: usize) -> Vec<u8> {
         1 => format!("{number:031}").into_bytes(),
         2 => format!("{:031}", number as u128 * 1_000_000_000_000_000_000_000_000).into_bytes(),
         3 => format!("{number:b}").replace('1', "ab").replace('0', "ba").into_bytes(),
-        _ => [vec![b'n'; number % 26], format!("{}", number / 26).into_bytes()].concat(),
+        4 => [vec![b'n'; number % 26], format!("{}", number / 26).into_bytes()].concat(),
+        // with an underscore as long as may be
+        5 => format!("{number:074}").into_bytes(),
+        _ => format!("{number:05}{:069}", 0).into_bytes(),
     }
 }
 
 /// About `count` names or codes, in one set or many, with a repeat or none.
 pub fn many_names(rng: &mut Rng, count: usize) -> Vec<u8> {
-    let family = rng.below(5);
+    // so many of the longest are over the largest size
+    let family = rng.below(if count > 8_000 { 5 } else { 7 });
     let layout = rng.below(5);
     let (one, other) = (rng.below(count), rng.below(count));
     let repeats = rng.once_in(2);
@@ -750,15 +806,45 @@ mod tests {
     fn valid_files_are_accepted_and_varied() {
         let mut kinds = [0u32; 13];
         let mut levels = [0u32; 9];
+        // no and yes: whether every name and code fits the old limit
+        let mut fit = [0u32; 2];
         for seed in 0..3000 {
             let file = valid(&mut Rng::new(seed));
             let (answer, tables) = reference::read(&file, reference::words_needed(&file));
             assert_eq!(answer.refusal, 0, "seed {seed}: {}", escaped(&file));
             tables[0].chunks(3).for_each(|row| kinds[row[0] as usize] += 1);
             tables[3].chunks(3).for_each(|row| levels[row[1] as usize] += 1);
+            let (checked, _) = reference::fits_32(&file, reference::words_needed(&file));
+            fit[checked.yes as usize] += 1;
         }
         assert!(kinds[1..=11].iter().all(|&count| count > 100), "{kinds:?}");
         assert!(levels[1..].iter().all(|&count| count > 10), "{levels:?}");
+        assert!(fit.iter().all(|&count| count > 800), "{fit:?}");
+    }
+
+    /// Names, codes and references reach the limits, and references go over them.
+    #[test]
+    fn lengths_reach_the_limits() {
+        // for kinds 1, 2, 6 and 8: each of AT_LIMITS
+        let mut counts = [[0u32; AT_LIMITS.len()]; 4];
+        for seed in 0..3000 {
+            let file = valid(&mut Rng::new(seed));
+            for token in reference::tokens(&file).expect("a valid file splits into tokens") {
+                let kind = [1, 2, 6, 8].iter().position(|&kind| kind == token.kind);
+                let length = token.end - token.start;
+                if let Some(kind) = kind {
+                    for (count, limit) in counts[kind].iter_mut().zip(AT_LIMITS) {
+                        *count += u32::from(length == limit);
+                    }
+                }
+            }
+        }
+        let [block, frame, name, reference] = counts;
+        for of_kind in [block, frame, name] {
+            assert!(of_kind[..3].iter().all(|&count| count > 20), "{counts:?}");
+            assert_eq!(of_kind[3], 0, "{counts:?}");
+        }
+        assert!(reference.iter().all(|&count| count > 20), "{counts:?}");
     }
 
     /// A sort of contents: its name, the first of LINE_ENDS that may close them,

@@ -18,3 +18,10 @@ pub const WIDTHS: [usize; 5] = [3, 3, 4, 3, 3];
 
 /// The largest file and the largest plain form, in bytes.
 pub const MOST_BYTES: usize = 1_048_576;
+
+/// The longest name, its underscore counted, and the longest block or frame code,
+/// in bytes.
+pub const MOST_NAME_BYTES: usize = 75;
+
+/// What that limit was before it was raised.
+pub const OLD_NAME_BYTES: usize = 32;

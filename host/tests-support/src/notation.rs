@@ -1,5 +1,7 @@
 //! Bytes in the escaped notation of the lists in vectors/, and those lists.
 
+use tackturnel::Checked;
+
 /// Bytes in the escaped notation: `\n \r \t \v \f \\` and `\xNN` as in C. A
 /// bar, and a blank at either end, are written `\x7c` and `\x20`.
 pub fn escaped(bytes: &[u8]) -> String {
@@ -99,6 +101,33 @@ fn vector(line: usize, text: &str) -> Vector {
 fn numbers(text: &str) -> Vec<u32> {
     let words = text.split([' ', ',']).filter(|word| !word.is_empty());
     words.map(|word| word.parse().expect("a number")).collect()
+}
+
+/// A file and the answer that a check is to give for it.
+#[derive(Clone, Debug)]
+pub struct CheckedVector {
+    /// The line of the vector in its list, from 1.
+    pub line: usize,
+    /// The file's bytes.
+    pub file: Vec<u8>,
+    /// The answer.
+    pub answer: Checked,
+}
+
+/// The vectors of a list of checks; its first line says how it is written.
+pub fn checked_vectors(list: &str) -> Vec<CheckedVector> {
+    let lines = list.lines().enumerate().skip(1);
+    lines.map(|(at, line)| checked_vector(at + 1, line)).collect()
+}
+
+fn checked_vector(line: usize, text: &str) -> CheckedVector {
+    let fields: Vec<&str> = text.split(" | ").collect();
+    assert_eq!(fields.len(), 3, "line {line}: three fields");
+    let [refusal, place, yes]: [u32; 3] = numbers(fields[1]).try_into().expect("three numbers");
+    let counts: [u32; 5] = numbers(fields[2]).try_into().expect("five counts");
+    let [tokens, sets, names, packets, values] = counts;
+    let answer = Checked { refusal, place, yes, tokens, sets, names, packets, values };
+    CheckedVector { line, file: unescaped(fields[0]), answer }
 }
 
 /// A content and the number that is expected for it.

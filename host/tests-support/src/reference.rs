@@ -8,10 +8,12 @@
 use std::collections::HashSet;
 use std::hash::{Hash, Hasher};
 
-use tackturnel::{Compared, Counts, Found, Part, Reading, Tables, Value, ValueNumber, Written};
+use tackturnel::{
+    Checked, Compared, Counts, Found, Part, Reading, Tables, Value, ValueNumber, Written,
+};
 
 use crate::number::number_of;
-use crate::{MOST_BYTES, WIDTHS};
+use crate::{MOST_BYTES, MOST_NAME_BYTES, OLD_NAME_BYTES, WIDTHS};
 
 /// A refusal's number and place.
 #[derive(Clone, Copy, Debug, PartialEq, Eq)]
@@ -101,6 +103,11 @@ impl Hash for Content<'_> {
 
 /// The tokens of a file of any size, or the first of refusals 2 to 6.
 pub fn tokens(file: &[u8]) -> Result<Vec<Token>, Refusal> {
+    tokens_within(file, MOST_NAME_BYTES)
+}
+
+/// As `tokens`, with this limit of names and codes.
+fn tokens_within(file: &[u8], longest: usize) -> Result<Vec<Token>, Refusal> {
     if let Some(place) = file.iter().position(|&byte| !is_allowed(byte)) {
         return Err(Refusal { number: 2, place });
     }
@@ -119,7 +126,7 @@ pub fn tokens(file: &[u8]) -> Result<Vec<Token>, Refusal> {
             } else if first == b'\'' || first == b'"' {
                 quoted(file, at)?
             } else {
-                word(file, at)?
+                word(file, at, longest)?
             };
             at = after(file, &token);
             tokens.push(token);
@@ -169,7 +176,7 @@ fn quoted(file: &[u8], at: usize) -> Result<Token, Refusal> {
     Err(Refusal { number: 5, place: at })
 }
 
-fn word(file: &[u8], at: usize) -> Result<Token, Refusal> {
+fn word(file: &[u8], at: usize, longest: usize) -> Result<Token, Refusal> {
     let end = at + file[at..].iter().take_while(|&&b| !is_white(b)).count();
     let word = &file[at..end];
     let (kind, lead) = match word {
@@ -188,10 +195,15 @@ fn word(file: &[u8], at: usize) -> Result<Token, Refusal> {
         _ => (7, 0),
     };
     let start = at + lead;
-    if matches!(kind, 1 | 2 | 6) && end - start > 32 {
+    if is_name_or_code(kind) && end - start > longest {
         return Err(Refusal { number: 4, place: at });
     }
     Ok(Token { kind, at, start, end })
+}
+
+/// Whether tokens of a kind have a limit: names, and codes of blocks and frames.
+fn is_name_or_code(kind: u32) -> bool {
+    matches!(kind, 1 | 2 | 6)
 }
 
 // -------------------------------------------------------------- grammar
@@ -392,12 +404,12 @@ impl<'a> Parser<'a> {
 // -------------------------------------------------------------- reading
 
 /// A file's tokens, none if it does not split into them, and its rows or the
-/// refusal it meets however much room there is.
-fn parsed(file: &[u8]) -> (Vec<Token>, Result<Rows, Refusal>) {
+/// refusal it meets however much room there is, by this limit of names and codes.
+fn parsed(file: &[u8], longest: usize) -> (Vec<Token>, Result<Rows, Refusal>) {
     if file.len() > MOST_BYTES {
         return (Vec::new(), Err(Refusal { number: 1, place: 0 }));
     }
-    match tokens(file) {
+    match tokens_within(file, longest) {
         Ok(tokens) => {
             let rows = rows(file, &tokens);
             (tokens, rows)
@@ -409,7 +421,7 @@ fn parsed(file: &[u8]) -> (Vec<Token>, Result<Rows, Refusal>) {
 /// The words that the file's rows need in each table. Where the file is
 /// refused whatever the room, only tokens that it splits into need any.
 pub fn words_needed(file: &[u8]) -> [usize; 5] {
-    match parsed(file) {
+    match parsed(file, MOST_NAME_BYTES) {
         (tokens, Ok(rows)) => words(&tokens, &rows).map(|table| table.len()),
         (tokens, Err(_)) => [3 * tokens.len(), 0, 0, 0, 0],
     }
@@ -427,10 +439,14 @@ fn words(tokens: &[Token], rows: &Rows) -> [Vec<u32>; 5] {
 }
 
 /// The tokens and tables of an accepted file, the tables without room to
-/// spare, or the refusal.
-fn reading(file: &[u8], room: [usize; 5]) -> Result<(Vec<Token>, [Vec<u32>; 5]), Refusal> {
+/// spare, or the refusal, by this limit of names and codes.
+fn reading(
+    file: &[u8],
+    room: [usize; 5],
+    longest: usize,
+) -> Result<(Vec<Token>, [Vec<u32>; 5]), Refusal> {
     let too_short = |table: usize| Refusal { number: 7, place: table + 1 };
-    let (tokens, rows) = parsed(file);
+    let (tokens, rows) = parsed(file, longest);
     if 3 * tokens.len() > room[0] {
         return Err(too_short(0));
     }
@@ -443,10 +459,34 @@ fn reading(file: &[u8], room: [usize; 5]) -> Result<(Vec<Token>, [Vec<u32>; 5]),
 
 /// Reads a file into tables of these lengths: the answer and every word.
 pub fn read(file: &[u8], room: [usize; 5]) -> (Reading, [Vec<u32>; 5]) {
-    match reading(file, room) {
+    read_within(file, room, MOST_NAME_BYTES)
+}
+
+/// Reads a file as `read` did before the limit of names and codes was raised.
+pub fn read_by_old_limit(file: &[u8], room: [usize; 5]) -> (Reading, [Vec<u32>; 5]) {
+    read_within(file, room, OLD_NAME_BYTES)
+}
+
+/// As `read`, with this limit of names and codes.
+fn read_within(file: &[u8], room: [usize; 5], longest: usize) -> (Reading, [Vec<u32>; 5]) {
+    match reading(file, room, longest) {
         Ok((_, tables)) => (accepted(&tables), padded(tables, room)),
         Err(refusal) => (refused(refusal), padded(Default::default(), room)),
     }
+}
+
+/// Reads a file into tables of these lengths and looks whether every name and
+/// code still fits 32 bytes: the answer and every word.
+pub fn fits_32(file: &[u8], room: [usize; 5]) -> (Checked, [Vec<u32>; 5]) {
+    let (reading, tables) = read(file, room);
+    let Reading { refusal, place, tokens, sets, names, packets, values } = reading;
+    let fits = |row: &[u32]| {
+        let length = (row[2] - row[1]) as usize;
+        !is_name_or_code(row[0]) || length <= OLD_NAME_BYTES
+    };
+    let all_fit = tables[0].chunks_exact(3).take(tokens as usize).all(fits);
+    let yes = u32::from(refusal == 0 && all_fit);
+    (Checked { refusal, place, yes, tokens, sets, names, packets, values }, tables)
 }
 
 /// The tables with 0 in every word after the last row.
@@ -503,7 +543,7 @@ pub fn plain_form(file: &[u8], tokens: &[Token]) -> Vec<u8> {
 /// Reads a file and writes its plain form, into tables and an output of these
 /// lengths: the answer, every word and every byte.
 pub fn write(file: &[u8], room: [usize; 5], out: usize) -> (Written, [Vec<u32>; 5], Vec<u8>) {
-    let written = reading(file, room).and_then(|(tokens, tables)| {
+    let written = reading(file, room, MOST_NAME_BYTES).and_then(|(tokens, tables)| {
         let plain = plain_form(file, &tokens);
         if plain.len() > MOST_BYTES {
             Err(Refusal { number: 1, place: 0 })
@@ -671,7 +711,7 @@ pub fn value_number(
 #[cfg(test)]
 mod tests {
     use super::*;
-    use crate::notation::{escaped, unescaped, vectors};
+    use crate::notation::{checked_vectors, escaped, unescaped, vectors};
 
     const ROOM: [usize; 5] = [600; 5];
 
@@ -689,6 +729,16 @@ mod tests {
     fn vectors_are_answered() {
         answer_vectors("base.txt", include_str!("../../vectors/base.txt"), 130);
         answer_vectors("102.txt", include_str!("../../vectors/102.txt"), 30);
+    }
+
+    #[test]
+    fn vectors_of_checks_are_answered() {
+        let list = checked_vectors(include_str!("../../vectors/104.txt"));
+        assert_eq!(list.len(), 25);
+        for vector in list {
+            let (checked, _) = fits_32(&vector.file, ROOM);
+            assert_eq!(checked, vector.answer, "line {}: {}", vector.line, escaped(&vector.file));
+        }
     }
 
     /// Answers the vectors of a list of so many.
@@ -848,17 +898,85 @@ mod tests {
         assert_eq!(answer((levels(7) + " loop_ loop_").as_bytes()), Err((8, place - 3)));
     }
 
+    /// What stands before and after a name or code, its underscore excepted.
+    const AROUND: [(&str, &str); 3] =
+        [("data_", ""), ("data_a save_", " save_"), ("data_a _", " 1")];
+
+    /// A file with a name or code of so many bytes, and the place of its token.
+    fn with_length((head, tail): (&str, &str), length: usize) -> (Vec<u8>, u32) {
+        let lead = usize::from(head.ends_with(" _"));
+        let file = head.to_owned() + &"n".repeat(length - lead) + tail;
+        (file.into_bytes(), head.rfind(' ').map_or(0, |at| at as u32 + 1))
+    }
+
+    /// `data_a _x` and a reference of so many bytes.
+    fn reference_of(length: usize) -> Vec<u8> {
+        ("data_a _x $".to_owned() + &"f".repeat(length)).into_bytes()
+    }
+
     #[test]
-    fn names_and_codes_of_32_bytes() {
-        for (head, tail) in [("data_", ""), ("data_a save_", " save_"), ("data_a _", " 1")] {
-            let lead = usize::from(head.ends_with(" _"));
-            let file = |length: usize| head.to_owned() + &"n".repeat(length - lead) + tail;
-            assert!(answer(file(32).as_bytes()).is_ok());
-            let place = head.rfind(' ').map_or(0, |at| at as u32 + 1);
-            assert_eq!(answer(file(33).as_bytes()), Err((4, place)));
+    fn names_and_codes_of_75_bytes() {
+        for around in AROUND {
+            for length in [2, 31, 32, 33, 74, 75] {
+                assert!(answer(&with_length(around, length).0).is_ok(), "{around:?}, {length}");
+            }
+            for length in [76, 77, 1000] {
+                let (file, place) = with_length(around, length);
+                assert_eq!(answer(&file), Err((4, place)), "{around:?}, {length}");
+            }
         }
-        let reference = "data_a _x $".to_owned() + &"f".repeat(1000);
-        assert_eq!(answer(reference.as_bytes()), Ok([3, 1, 1, 0, 1]));
+        for length in [75, 76, 1000] {
+            assert_eq!(answer(&reference_of(length)), Ok([3, 1, 1, 0, 1]));
+        }
+    }
+
+    #[test]
+    fn names_and_codes_that_fit_32_bytes() {
+        let yes = |file: &[u8]| {
+            let (checked, tables) = fits_32(file, ROOM);
+            assert_eq!((checked.reading(), tables), read(file, ROOM), "{}", escaped(file));
+            assert_eq!(checked.refusal, 0, "{}", escaped(file));
+            checked.yes
+        };
+        assert_eq!(yes(b""), 1);
+        for around in AROUND {
+            for length in [2, 31, 32] {
+                assert_eq!(yes(&with_length(around, length).0), 1, "{around:?}, {length}");
+            }
+            for length in [33, 34, 74, 75] {
+                let (file, place) = with_length(around, length);
+                assert_eq!(yes(&file), 0, "{around:?}, {length}");
+                let (old, tables) = read_by_old_limit(&file, ROOM);
+                assert_eq!(old, Reading { refusal: 4, place, ..Reading::default() });
+                assert!(tables.iter().flatten().all(|&word| word == 0));
+            }
+            let (file, place) = with_length(around, 76);
+            let (checked, tables) = fits_32(&file, ROOM);
+            assert_eq!(checked, Checked { refusal: 4, place, ..Checked::default() });
+            assert!(tables.iter().flatten().all(|&word| word == 0));
+        }
+        // other kinds never count
+        for length in [32, 33, 75, 76, 1000] {
+            assert_eq!(yes(&reference_of(length)), 1);
+            for (head, tail) in [("", ""), ("'", "'"), ("\"", "\""), ("\n;", "\n;")] {
+                let file = format!("data_a _x {head}{}{tail}", "v".repeat(length));
+                assert_eq!(yes(file.as_bytes()), 1, "{file}");
+            }
+        }
+        // a name that is too long after one that does not fit: reading's refusal
+        let file = format!("data_a _{} 1 _{} 2", "n".repeat(40), "n".repeat(80));
+        let checked = fits_32(file.as_bytes(), ROOM).0;
+        assert_eq!(checked, Checked { refusal: 4, place: 51, ..Checked::default() });
+        let old = read_by_old_limit(file.as_bytes(), ROOM).0;
+        assert_eq!(old, Reading { refusal: 4, place: 7, ..Reading::default() });
+        // tables too short: 7, and under the old limit 4
+        let (file, place) = with_length(AROUND[2], 33);
+        for (room, table) in [([8, 9, 9, 9, 9], 1), ([9, 9, 3, 9, 9], 3)] {
+            let checked = fits_32(&file, room).0;
+            assert_eq!(checked, Checked { refusal: 7, place: table, ..Checked::default() });
+            let old = read_by_old_limit(&file, room).0;
+            assert_eq!(old, Reading { refusal: 4, place, ..Reading::default() });
+        }
     }
 
     #[test]

@@ -8,7 +8,9 @@ use std::fmt::{Debug, Write};
 use std::sync::OnceLock;
 use std::time::{Duration, Instant};
 
-use tackturnel::{raw, star, Compared, Counts, Number, Part, Reading, Tables, TablesMut, Written};
+use tackturnel::{
+    raw, star, Checked, Compared, Counts, Number, Part, Reading, Tables, TablesMut, Written,
+};
 use tackturnel_tests_support::generate::{Handed, Question, Rng};
 use tackturnel_tests_support::notation::escaped;
 use tackturnel_tests_support::{number, reference, WIDTHS};
@@ -356,6 +358,36 @@ pub fn by_length(seed: u64, file: &[u8]) -> Result<Reading, String> {
         }
     }
     Ok(reading)
+}
+
+// ----------------------------------------------------------------- checks
+
+/// Asks whether a file fits the old limit by both, with tables of this many words
+/// more, or less, than needed.
+pub fn fits(seed: u64, file: &[u8], spare: [isize; 5]) -> Result<Checked, String> {
+    fits_into(seed, file, room(file, spare))
+}
+
+/// Asks whether a file fits the old limit by both, with tables of these lengths.
+/// All but yes is as the library's own reading has it.
+pub fn fits_into(seed: u64, file: &[u8], room: [usize; 5]) -> Result<Checked, String> {
+    let rng = &mut Rng::new(seed);
+    let lent_file = lent_bytes(rng, file);
+    let mut tables = room.map(|length| junk_words(rng, length));
+    let answer = star::fits_32(lent_file.range(), lend_mut(&mut tables));
+    let (expected, expected_tables) = reference::fits_32(file, room);
+    let mut differences = Differences::default();
+    differences.answer(&format!("fits_32 into {room:?} words"), answer, expected);
+    differences.tables(&tables, &expected_tables);
+    differences.unchanged("file", &lent_file, file);
+    let mut read_tables = room.map(|length| vec![7; length]);
+    let reading = star::read(file, TablesMut::of(&mut read_tables));
+    let same_words = tables.iter().zip(&read_tables).all(|(one, other)| one.range() == other);
+    if answer.reading() != reading || !same_words {
+        differences
+            .line(format!("fits_32 and read by the library differ: {answer:?}, {reading:?}"));
+    }
+    differences.end(expected)
 }
 
 // ---------------------------------------------------------------- lookups

@@ -9,6 +9,7 @@ use std::collections::HashSet;
 use std::iter;
 
 use super::{letter, Rng};
+use crate::MOST_NAME_BYTES;
 
 // ----------------------------------------------------------------- hash
 
@@ -91,9 +92,6 @@ pub fn four_between(
 
 // ------------------------------------------------------------- contents
 
-/// The most bytes of a name or code.
-const MOST: usize = 32;
-
 /// The lengths of names and codes.
 #[derive(Clone, Copy, Debug, PartialEq, Eq)]
 enum Lengths {
@@ -140,7 +138,7 @@ impl Shared {
             let count = rng.pick(&[0, 0, 1, 4, 8]);
             letters(rng, count)
         });
-        let most = MOST - 5 - head.len() - tail.len();
+        let most = MOST_NAME_BYTES - 5 - head.len() - tail.len();
         let lengths =
             if rng.once_in(2) { Lengths::Many } else { Lengths::One(rng.between(2, most)) };
         Shared { bits, hash: rng.below(HASHES as usize) as u32, head, tail, lengths }
@@ -194,7 +192,7 @@ impl Shared {
     /// What stands before four bytes and the last: the first bytes and letters,
     /// or where lengths differ also a whole other name or code.
     fn front(&self, rng: &mut Rng, sort: Sort, others: &[Vec<u8>]) -> Vec<u8> {
-        let most = MOST - 4 - self.tail.len();
+        let most = MOST_NAME_BYTES - 4 - self.tail.len();
         let first = [sort.lead(), &self.head].concat();
         if let Lengths::One(count) = self.lengths {
             return [first, letters(rng, count)].concat();
@@ -387,7 +385,7 @@ mod tests {
             assert_eq!(different(contents.iter()), 300, "seed {seed}");
             assert_eq!(different(hashes().map(|hash| hash % (1 << bits))), 1, "seed {seed}");
             assert_eq!(different(hashes()) == 1, bits == 20, "seed {seed}");
-            assert!(lengths().all(|length| length <= MOST), "seed {seed}");
+            assert!(lengths().all(|length| length <= MOST_NAME_BYTES), "seed {seed}");
             let short = lengths().filter(|&length| length <= sort.lead().len() + 3).count();
             tally[0] += u32::from(different(lengths()) == 1);
             tally[1] += u32::from(one_begins(&contents));

@@ -1,0 +1,3 @@
+pub mod Check
+pub mod Fits
+pub mod Demands
