@@ -2,27 +2,35 @@
  * Tackturnel: a verified reader of STAR Files.
  *
  * The library reads one STAR File from lent bytes into five lent tables of
- * 32-bit words, finds data blocks, save frames, names and values in them,
- * compares names and codes, answers values as numbers with their
- * uncertainties, writes the file's plain form, and answers whether its names
- * and codes keep the limit of older readers.
+ * 32-bit words, finds data blocks, save frames, names and values in them, names
+ * of global blocks too, compares names and codes, answers values as numbers
+ * with their uncertainties, writes the file's plain form, and answers whether
+ * its names and codes keep the limit of older readers.
  *
  * THE FIVE TABLES. Rows count from 1 and stand in file order. Offsets count
  * the file's bytes from 0; the end of a span is not included.
  *
  *   no.  table    words of a row
  *   1    tokens   kind, start of content, end of content
- *   2    sets     kind (1 data block, 2 save frame), heading token, parent set (0 for a data block)
+ *   2    sets     kind (1 data block, 2 save frame, 3 global block), heading token,
+ *                 parent set (0 for a data or global block)
  *   3    names    set, name token, loop, level (loop and level 0 for a single item)
  *   4    packets  loop, level, parent packet (0 at level 1)
  *   5    values   name row, packet (0 for a single item), token
  *
  * Kinds of tokens: 1 data_ and a code, 2 save_ and a code, 3 save_ alone,
  * 4 loop_, 5 stop_, 6 name, 7 word, 8 $ and a frame code, 9 single-quoted
- * string, 10 double-quoted string, 11 text field, 12 global_, which is refused
- * and so in no table. Values are 7 to 11. The content of a token is the code
- * for kinds 1, 2 and 8, what stands between the delimiters for kinds 9 to 11,
- * else the whole word.
+ * string, 10 double-quoted string, 11 text field, 12 global_. Values are 7 to
+ * 11. The content of a token is the code for kinds 1, 2 and 8, what stands
+ * between the delimiters for kinds 9 to 11, else the whole word.
+ *
+ * GLOBAL BLOCKS. A global block is global_ and what follows it up to the next
+ * data_ and a code, the next global_ or the end: items, loops and save frames,
+ * none included. It may stand wherever a data block may. It has no code. Its
+ * names are unique within it, those of its frames not counted, and so are the
+ * codes of its frames; both may come again in any other block. A data block
+ * takes the names that it does not have from the global blocks before it, the
+ * nearest first (star_find_name). Save frames and global blocks take nothing.
  *
  * LINE ENDS. 13 directly followed by 10 is one line end, and so is each other
  * 10, 12 and 13. A ; at the start of a line or of the file opens a text field,
@@ -47,12 +55,13 @@
  *   9    STAR_TAKEN       name or code already taken                        first byte
  *   10   STAR_INCOMPLETE  packet not full, or inner level not closed        first byte, or the file's length
  *   11   STAR_TOO_DEEP    loop_ that opens level 9                          first byte
- *   12   STAR_GLOBAL      global_                                           first byte
  *   13   STAR_NOT_FOUND   not found                                         0
  *   14   STAR_OUTSIDE     a number or row that points outside               0
  *
+ * 12 is not used: readers that do not know global blocks give it at global_.
+ *
  * Order of checking: 1; 2 over the whole file; the first token faulty by 3
- * to 6; 7 for table 1; the first token that breaks the grammar, 8 to 12;
+ * to 6; 7 for table 1; the first token that breaks the grammar, 8 to 11;
  * 7 for tables 2 to 5, the lowest number first.
  *
  * NUMBERS. A value of kind 7 is a number where its content is, in this order:
@@ -115,7 +124,6 @@ enum star_refusal {
     STAR_TAKEN = 9,
     STAR_INCOMPLETE = 10,
     STAR_TOO_DEEP = 11,
-    STAR_GLOBAL = 12,
     STAR_NOT_FOUND = 13,
     STAR_OUTSIDE = 14
 };
@@ -138,8 +146,9 @@ enum star_token_kind {
 
 /* The kinds of sets. */
 enum star_set_kind {
-    STAR_SET_BLOCK = 1,
-    STAR_SET_FRAME = 2
+    STAR_SET_BLOCK = 1,           /* data block */
+    STAR_SET_FRAME = 2,           /* save frame */
+    STAR_SET_GLOBAL = 3           /* global block */
 };
 
 /* The forms of numbers, as the table above has them. */
@@ -192,7 +201,7 @@ enum star_number_form {
 
 /* A token has 1 byte or more: tokens * 2 <= n + 1 is theorem tokens-bound of star_lex. */
 #define STAR_MOST_TOKENS(n) (STAR_READ_BYTES_(n) / 2 + 1)
-/* Each set has a heading of its own, data_ or save_ and a code: 6 bytes or more. */
+/* Each set has a heading of its own, data_ or save_ and a code or the 7 bytes of global_: 6 bytes or more. */
 #define STAR_MOST_SETS(n) (STAR_READ_BYTES_(n) / 7 + 1)
 /* Each row of names has a token of its own, _ and 1 byte or more: 2 bytes or more. */
 #define STAR_MOST_NAMES(n) (STAR_READ_BYTES_(n) / 3 + 1)
@@ -296,7 +305,7 @@ static inline star_counts star_counts_of_checked(star_checked checked)
 /*
  * Reads a file.
  *
- * Refusals: 1 to 12. The number and place of the first check that fails, in
+ * Refusals: 1 to 11. The number and place of the first check that fails, in
  * the order given above; both 0 when the file is accepted.
  * Afterwards: accepted, each table holds its rows and 0 in every word after
  * them, and the counts are those of the rows. Refused, every word of every
@@ -311,7 +320,7 @@ star_reading star_read(const uint8_t *file, size_t file_len,
 
 /*
  * Finds a data block: the first set of kind 1 whose heading's content equals
- * the code.
+ * the code. Global blocks are not looked at.
  *
  * Refusals: 14 if any of the five counts is larger than its table holds; then,
  * set by set, 14 at a data block whose token row is 0 or above the count of
@@ -330,7 +339,8 @@ star_found star_find_block(const uint8_t *file, size_t file_len,
 
 /*
  * Finds a save frame of a set: the first set of kind 2 with that parent whose
- * heading's content equals the code.
+ * heading's content equals the code. A frame in a global block is found through
+ * that set alone.
  *
  * Refusals: 14 if any of the five counts is larger than its table holds, or
  * the set is 0 or above the count of sets; then, set by set, 14 at a frame of
@@ -350,12 +360,17 @@ star_found star_find_frame(const uint8_t *file, size_t file_len,
 /*
  * Finds a name of a set, underscore included: the first name row of that set
  * whose token's content equals the name. Names of a block's save frames are
- * not the block's own.
+ * not the block's own. Where none of a data block, a set of kind 1, is equal,
+ * the global blocks before it are searched in the same way, the nearest first:
+ * the sets of kind 3 among rows set - 1 down to 1. A later global block never
+ * counts, and a set of any other kind is searched alone. The first word of the
+ * row that is found is the set that has the name.
  *
  * Refusals: 14 if any of the five counts is larger than its table holds, or
  * the set is 0 or above the count of sets; then, name by name, 14 at a name of
- * that set whose token row or span points outside as in star_find_block; 13
- * if none is equal. A refused lookup answers row 0.
+ * the set that is searched whose token row or span points outside as in
+ * star_find_block, and no further set is searched; 13 if none is equal in any
+ * of them. A refused lookup answers row 0.
  * Afterwards: all lent memory is as it was.
  */
 star_found star_find_name(const uint8_t *file, size_t file_len,
@@ -474,7 +489,8 @@ star_written star_write(const uint8_t *file, size_t file_len,
  *
  * After yes, that reader answers what star_read answers, whatever tables it is
  * lent, and leaves the same words in them. After no, it answers refusal 4 at the
- * first token whose name or code is longer.
+ * first token whose name or code is longer. A reader that does not know global
+ * blocks refuses every file that has one, whatever is answered here.
  *
  * Refusals: those of star_read; yes is then 0.
  * Afterwards: accepted, yes is 1 or 0, the place is 0, the tables hold the

@@ -7,7 +7,7 @@ pub type Case = (&'static str, fn() -> Vec<u8>);
 
 /// All cases: five sorts of a million bytes, then names and codes that are
 /// compared with one another, in growing numbers and of each sort.
-pub const CASES: [Case; 14] = [
+pub const CASES: [Case; 15] = [
     ("loop", || numbers(1_000_000)),
     ("items", || items(1_000_000)),
     ("items-values", || items_as_values(1_000_000)),
@@ -19,6 +19,7 @@ pub const CASES: [Case; 14] = [
     ("header", || header(1_000_000)),
     ("frames", || frames(1_000_000)),
     ("blocks", || blocks(1_000_000)),
+    ("globals", || globals(1_000_000)),
     ("bucket-100k", || one_bucket(100_000)),
     ("bucket", || one_bucket(1_000_000)),
     ("twins-100k", || twins(100_000)),
@@ -121,6 +122,11 @@ fn frames(bytes: usize) -> Vec<u8> {
 /// Data blocks of one name.
 fn blocks(bytes: usize) -> Vec<u8> {
     filled("", bytes, |number| format!("data_b{number:05} _x 1\n"))
+}
+
+/// Global blocks of one name.
+fn globals(bytes: usize) -> Vec<u8> {
+    filled("", bytes, |number| format!("global_ _x {number:05}\n"))
 }
 
 /// A single item, the bytes of its name being a head and an end.

@@ -26,8 +26,7 @@ pub const STAR_TAKEN: u32 = 9;
 pub const STAR_INCOMPLETE: u32 = 10;
 /// A `loop_` that opens a level over [`STAR_MOST_LEVELS`].
 pub const STAR_TOO_DEEP: u32 = 11;
-/// A `global_`.
-pub const STAR_GLOBAL: u32 = 12;
+// 12 is not used: readers that do not know global blocks give it at `global_`.
 /// Lookup: not found.
 pub const STAR_NOT_FOUND: u32 = 13;
 /// Lookup: a number or row that points outside.
@@ -57,12 +56,14 @@ pub const STAR_TOKEN_SINGLE_QUOTED: u32 = 9;
 pub const STAR_TOKEN_DOUBLE_QUOTED: u32 = 10;
 /// Kind of token: a text field.
 pub const STAR_TOKEN_TEXT: u32 = 11;
-/// Kind of token: `global_`, which is refused and so in no table.
+/// Kind of token: `global_`.
 pub const STAR_TOKEN_GLOBAL: u32 = 12;
 /// Kind of set: a data block.
 pub const STAR_SET_BLOCK: u32 = 1;
 /// Kind of set: a save frame.
 pub const STAR_SET_FRAME: u32 = 2;
+/// Kind of set: a global block.
+pub const STAR_SET_GLOBAL: u32 = 3;
 
 // ----------------------------------------------------------------- forms
 

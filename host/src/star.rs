@@ -236,17 +236,34 @@ macro_rules! look {
     };
 }
 
-/// Finds the data block with this code.
+/// Finds the data block with this code; global blocks are not looked at.
 pub fn find_block(file: &[u8], tables: Tables<'_>, counts: Counts, code: &[u8]) -> Found {
     look!(star_find_block, file, tables, counts, code.as_ptr(), code.len())
 }
 
-/// Finds the save frame of a set with this code.
+/// Finds the save frame of a set with this code; one in a global block is found
+/// through that set alone.
 pub fn find_frame(file: &[u8], tables: Tables<'_>, counts: Counts, set: u32, code: &[u8]) -> Found {
     look!(star_find_frame, file, tables, counts, set, code.as_ptr(), code.len())
 }
 
-/// Finds the name row of a set with this name, underscore included.
+/// Finds the name row of a set with this name, underscore included. What a data
+/// block does not have is sought in the global blocks before it, the nearest first.
+///
+/// ```
+/// use tackturnel::{star, Tables, TablesMut};
+///
+/// let file = b"global_ _x 1 _y 2 data_a _x 3";
+/// let mut tables = star::room(file.len()).map(|words| vec![0; words]);
+/// let counts = star::read(file, TablesMut::of(&mut tables)).counts();
+/// let tables = Tables::of(&tables);
+/// let block = star::find_block(file, tables, counts, b"a").row;
+/// let value = |name: &[u8]| {
+///     let row = star::find_name(file, tables, counts, block, name).row;
+///     star::value_part(file, tables, counts, row, 1)
+/// };
+/// assert_eq!((value(b"_x"), value(b"_y")), (&b"3"[..], &b"2"[..]));
+/// ```
 pub fn find_name(file: &[u8], tables: Tables<'_>, counts: Counts, set: u32, name: &[u8]) -> Found {
     look!(star_find_name, file, tables, counts, set, name.as_ptr(), name.len())
 }

@@ -12,9 +12,11 @@ use tackturnel_tests_support::generate::twins::{self, Plan, SORTS};
 use tackturnel_tests_support::generate::{self, Rng};
 use tackturnel_tests_support::reference;
 
-/// Requires that each of these refusals was met, unless in a small part of a run.
+/// Requires that each of these refusals was met, unless in a small part of a run,
+/// and that 12 was not, which is not used.
 fn require(group: &str, tally: &Tally, refusals: &[usize]) {
     println!("{group}: answers by refusal {tally:?}");
+    assert_eq!(tally[12], 0, "{group}");
     if setting("STAR_COMPARE_TIMES", 1.0) < 0.1 {
         return;
     }
@@ -49,7 +51,7 @@ fn generated_files() {
         }
         check("round trip", seed, &file, round_trip);
     });
-    require("generated files", &tally, &[0, 2, 3, 4, 5, 6, 7, 8, 9, 10, 11, 12]);
+    require("generated files", &tally, &[0, 2, 3, 4, 5, 6, 7, 8, 9, 10, 11]);
 }
 
 #[test]
@@ -74,7 +76,7 @@ fn room_by_length() {
         let answer = check("room by length", seed, &file, |file| by_length(seed, file));
         tally[answer.refusal as usize] += 1;
     });
-    require("room by length", &tally, &[0, 2, 3, 4, 5, 6, 8, 9, 10, 11, 12]);
+    require("room by length", &tally, &[0, 2, 3, 4, 5, 6, 8, 9, 10, 11]);
 }
 
 #[test]
@@ -94,6 +96,9 @@ fn tables_of_every_length() {
         "data_a data_a",
         "",
         "global_",
+        "global_ _x 1 save_f loop_ _x 1 2 save_ global_ loop_ _x 1 data_a",
+        "data_a save_f global_",
+        "data_a loop_ _x _y 1 global_",
     ];
     for file in files {
         let needed = reference::words_needed(file.as_bytes());
@@ -132,20 +137,23 @@ fn every_row(file: &mut Vec<u8>, tokens: &[&str], more: usize, tally: &mut Tally
 #[test]
 fn every_row_of_tokens() {
     let mut tally = Tally::default();
+    // the last token, which may come any number of times, in shorter rows alone
     let tokens =
         ["data_a", "data_b", "save_f", "save_", "loop_", "stop_", "_x", "_y", "1", "global_"];
-    every_row(&mut Vec::new(), &tokens, 12, &mut tally);
+    every_row(&mut Vec::new(), &tokens[..9], 12, &mut tally);
+    every_row(&mut Vec::new(), &tokens, 10, &mut tally);
     // loops: names of two levels, then what may come in their packets
-    let inner = ["save_", "loop_", "stop_", "_x", "_z", "1", "data_b"];
+    let inner = ["save_", "loop_", "stop_", "_x", "_z", "1", "data_b", "global_"];
     for head in [
         "data_a save_f loop_ _x loop_ _y",
         "data_a loop_ _x _y loop_ _v _w",
         "data_a loop_ _a loop_ _b loop_ _c",
         "data_a loop_ _a loop_ _b loop_ _c loop_ _d loop_ _e loop_ _f loop_ _g loop_ _h",
     ] {
-        every_row(&mut head.into(), &inner, 11, &mut tally);
+        every_row(&mut head.into(), &inner[..7], 11, &mut tally);
+        every_row(&mut head.into(), &inner, 10, &mut tally);
     }
-    require("every row of tokens", &tally, &[0, 8, 9, 10, 11, 12]);
+    require("every row of tokens", &tally, &[0, 8, 9, 10, 11]);
 }
 
 /// Every file made of a head and up to so many of these bytes.
@@ -194,13 +202,13 @@ fn every_short_file() {
     // every beginning of every keyword, and one byte more
     for keyword in ["data_", "loop_", "global_", "save_", "stop_", "_", "$"] {
         for length in 0..=keyword.len() {
-            for head in ["", "data_a _x ", "data_a "] {
+            for head in ["", "data_a _x ", "data_a ", "global_ "] {
                 let file = head.to_owned() + &keyword[..length];
                 every_file(&mut file.into(), b"_axA1 ", 2, &mut tally);
             }
         }
     }
-    require("every short file", &tally, &[0, 2, 3, 5, 6, 8, 12]);
+    require("every short file", &tally, &[0, 2, 3, 5, 6, 8]);
 }
 
 #[test]

@@ -210,6 +210,16 @@ fn found(handed: &Handed, rows: impl Iterator<Item = (usize, u32)>, sought: &[u8
     }
 }
 
+/// The sets in which a name that is asked of a set is sought, in order.
+fn searched(sets: &[u32], set: u32) -> Vec<u32> {
+    let kind = |row: u32| sets[raw::STAR_SETS_WIDTH * (row as usize - 1)];
+    let mut all = vec![set];
+    if kind(set) == raw::STAR_SET_BLOCK {
+        all.extend((1..set).rev().filter(|&row| kind(row) == raw::STAR_SET_GLOBAL));
+    }
+    all
+}
+
 /// A block, frame or name is found exactly where star_compare says that its code
 /// or name equals what is sought.
 #[test]
@@ -226,7 +236,6 @@ fn lookups_agree() {
             let Question { set, sought, .. } = generate::question(rng, handed);
             let blocks = sets().filter(|(_, row)| row[0] == raw::STAR_SET_BLOCK);
             let frames = sets().filter(|(_, row)| row[0] == raw::STAR_SET_FRAME && row[2] == set);
-            let own = names().filter(|(_, row)| row[0] == set);
             let token = |(at, row): (usize, &[u32])| (at, row[1]);
             let mut answers = vec![(
                 star::find_block(file, tables, counts, &sought),
@@ -237,9 +246,16 @@ fn lookups_agree() {
                     star::find_frame(file, tables, counts, set, &sought),
                     found(handed, frames.map(token), &sought),
                 ));
+                let of = |set: u32| {
+                    let own = names().filter(|(_, row)| row[0] == set);
+                    found(handed, own.map(token), &sought)
+                };
+                let mut all = searched(tables.sets, set).into_iter().map(of);
+                let first = all.find(|answer| answer.refusal != raw::STAR_NOT_FOUND);
+                let none = Found { refusal: raw::STAR_NOT_FOUND, row: 0 };
                 answers.push((
                     star::find_name(file, tables, counts, set, &sought),
-                    found(handed, own.map(token), &sought),
+                    first.unwrap_or(none),
                 ));
             }
             for (at, (answer, by_compare)) in answers.into_iter().enumerate() {
@@ -276,6 +292,10 @@ fn uniqueness_agrees() {
             ["data_a save_f ", "_", " 1 ", " 2 save_"],
             ["", "data_", " ", ""],
             ["data_a ", "save_", " save_ ", " save_"],
+            ["global_ ", "_", " 1 ", " 2"],
+            ["global_ loop_ ", "_", " 1 ", " 2 global_"],
+            ["global_ ", "data_", " global_ ", ""],
+            ["data_a global_ ", "save_", " save_ ", " save_"],
         ] {
             let first = [head.as_bytes(), lead.as_bytes(), &one, between.as_bytes()].concat();
             let file = [&first, lead.as_bytes(), &other, tail.as_bytes()].concat();

@@ -4,7 +4,9 @@ use std::collections::HashSet;
 use std::process::Command;
 
 use tackturnel::{raw, star, Counts, NumberForm, Reading, Tables, TablesMut, Written};
-use tackturnel_tests_support::notation::{checked_vectors, escaped, number_vectors, vectors};
+use tackturnel_tests_support::notation::{
+    checked_vectors, escaped, name_vectors, number_vectors, vectors, NameVector,
+};
 use tackturnel_tests_support::reference;
 
 /// The answers of reading and writing on a file, tables of 900 words and an output of
@@ -28,6 +30,11 @@ fn vectors_are_answered() {
 #[test]
 fn line_end_vectors_are_answered() {
     answer_vectors("102.txt", include_str!("../vectors/102.txt"), 30);
+}
+
+#[test]
+fn global_block_vectors_are_answered() {
+    answer_vectors("105.txt", include_str!("../vectors/105.txt"), 38);
 }
 
 /// Answers the vectors of a list of so many.
@@ -59,6 +66,19 @@ fn number_vectors_are_answered() {
         let number = star::number_of(vector.kind, &vector.content);
         let answer = (number.form, number.value.to_bits(), number.uncertainty.to_bits());
         assert_eq!(answer, vector.answer, "line {}: {}", vector.line, escaped(&vector.content));
+    }
+}
+
+#[test]
+fn vectors_of_lookups_are_answered() {
+    let list = name_vectors(include_str!("../vectors/105-names.txt"));
+    assert_eq!(list.len(), 252);
+    for NameVector { line, file, set, name, answer } in list {
+        let (reading, tables, ..) = answers(&file);
+        let before = tables.clone();
+        let found = star::find_name(&file, Tables::of(&tables), reading.counts(), set, &name);
+        assert_eq!(found, answer, "line {line}: {} {set} {}", escaped(&file), escaped(&name));
+        assert_eq!(tables, before, "line {line}");
     }
 }
 
@@ -163,7 +183,7 @@ fn examples_of_loops() {
     assert_eq!(texts(column(levels, "a", None, "_function_coefficient"))[8], "1.0000000E+01");
 }
 
-/// The save frames and data blocks of Hall & Spadaccini 1994 and of International Tables G.
+/// The save frames, data blocks and global blocks of Hall & Spadaccini 1994 and of International Tables G.
 #[test]
 fn examples_of_sets() {
     let file = "data_example\nsave_phenyl\n  _object_class      molecular_fragment\n  loop_\n\
@@ -182,6 +202,16 @@ fn examples_of_sets() {
     let words = b"data_rhinovirus\nall information relevant to rhinovirus included here\n";
     let (reading, ..) = answers(words);
     assert_eq!((reading.refusal, reading.place), (8, 16));
+    let words = b"global_\nall information global to subsequent data blocks included here\n";
+    let (reading, ..) = answers(words);
+    assert_eq!((reading.refusal, reading.place), (8, 8));
+    // a value that a data block does not have is that of the global block before it
+    let viruses =
+        "global_\n_host human\n_segments 8\ndata_rhinovirus\n_segments 1\ndata_influenza\n";
+    for (block, segments) in [("rhinovirus", "1"), ("influenza", "8")] {
+        assert_eq!(texts(column(viruses, block, None, "_segments")), [segments]);
+        assert_eq!(texts(column(viruses, block, None, "_host")), ["human"]);
+    }
     // the text strings of 002
     for (text, value) in [
         ("light_blue", "light_blue"),
@@ -423,7 +453,7 @@ fn constants_name_the_answers() {
         ("data_a loop_ _x loop_ _y 1".into(), raw::STAR_INCOMPLETE),
         (levels(raw::STAR_MOST_LEVELS), raw::STAR_OK),
         (levels(raw::STAR_MOST_LEVELS + 1), raw::STAR_TOO_DEEP),
-        ("global_".into(), raw::STAR_GLOBAL),
+        ("global_".into(), raw::STAR_OK),
     ] {
         assert_eq!(read_by_length(&file, 0, 0).refusal, refusal, "{}", &file[..file.len().min(99)]);
     }
@@ -434,7 +464,7 @@ fn constants_name_the_answers() {
         assert_eq!((checked.refusal, checked.yes), (raw::STAR_OK, yes), "{file}");
     }
 
-    let file = b"data_a save_f save_ loop_ _x loop_ _y w stop_ $f stop_ 's' stop_ \"d\" stop_\n;t\n; stop_";
+    let file = b"data_a save_f save_ loop_ _x loop_ _y w stop_ $f stop_ 's' stop_ \"d\" stop_\n;t\n; stop_ global_";
     let (reading, tables, ..) = answers(file);
     assert_eq!(reading.refusal, raw::STAR_OK);
     let kinds: Vec<u32> = tables[0].chunks(raw::STAR_TOKENS_WIDTH).map(|row| row[0]).collect();
@@ -456,13 +486,15 @@ fn constants_name_the_answers() {
         raw::STAR_TOKEN_STOP,
         raw::STAR_TOKEN_TEXT,
         raw::STAR_TOKEN_STOP,
+        raw::STAR_TOKEN_GLOBAL,
     ];
     assert_eq!(kinds[..reading.tokens as usize], expected);
     let sets: Vec<u32> = tables[1].chunks(raw::STAR_SETS_WIDTH).map(|row| row[0]).collect();
-    assert_eq!(sets[..reading.sets as usize], [raw::STAR_SET_BLOCK, raw::STAR_SET_FRAME]);
+    let expected = [raw::STAR_SET_BLOCK, raw::STAR_SET_FRAME, raw::STAR_SET_GLOBAL];
+    assert_eq!(sets[..reading.sets as usize], expected);
     let (tables, counts) = (Tables::of(&tables), reading.counts());
     assert_eq!(star::find_block(file, tables, counts, b"b").refusal, raw::STAR_NOT_FOUND);
-    assert_eq!(star::find_name(file, tables, counts, 3, b"_x").refusal, raw::STAR_OUTSIDE);
+    assert_eq!(star::find_name(file, tables, counts, 4, b"_x").refusal, raw::STAR_OUTSIDE);
 }
 
 /// The constants of numbers stand for what their names say.

@@ -1,4 +1,6 @@
 pub mod Looking
+pub mod Asking
+pub mod Nearest
 pub mod Seeking
 pub mod Answers
 pub mod Numbered

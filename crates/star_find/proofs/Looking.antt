@@ -35,23 +35,27 @@ decided Outside row others = refused 14
 decided Equal row others = found row
 decided Other row others = others
 
-pub seek-row : (isOne : ℕ → Bool) (content : ℕ → Option (List ℕ)) (wanted : List ℕ) (left row : ℕ)
+pub meet-decides : (wanted : List ℕ) (row : ℕ) (o : Option (List ℕ)) (others : Found) → meet wanted row o others ≡ decided (matchOf wanted o) row others
+unfolding meet matchOf
+meet-decides wanted row none others = refl
+meet-decides wanted row (some c) others = go (same c wanted)
+  where
+    go : (t : Bool) → cond t (found row) others ≡ decided (cond t Equal Other) row others
+    go true = refl
+    go false = refl
+
+seek-row : (isOne : ℕ → Bool) (content : ℕ → Option (List ℕ)) (wanted : List ℕ) (left row : ℕ)
     → seek isOne content wanted (suc left) row
     ≡ decided (cond (isOne row) (matchOf wanted (content row)) Other) row (seek isOne content wanted left (suc row))
-unfolding seek meet matchOf
-seek-row isOne content wanted left row = go (isOne row) (content row)
+unfolding seek
+seek-row isOne content wanted left row = go (isOne row)
   where
     rest : Found
     rest = seek isOne content wanted left (suc row)
 
-    byBytes : (t : Bool) → cond t (found row) rest ≡ decided (cond t Equal Other) row rest
-    byBytes true = refl
-    byBytes false = refl
-
-    go : (t : Bool) (o : Option (List ℕ)) → cond t (meet wanted row o rest) rest ≡ decided (cond t (matchOf wanted o) Other) row rest
-    go true none = refl
-    go true (some c) = byBytes (same c wanted)
-    go false o = refl
+    go : (t : Bool) → cond t (meet wanted row (content row) rest) rest ≡ decided (cond t (matchOf wanted (content row)) Other) row rest
+    go true = meet-decides wanted row (content row) rest
+    go false = refl
 
 pub seek-at : (isOne : ℕ → Bool) (content : ℕ → Option (List ℕ)) (wanted : List ℕ) (rows i : ℕ) → i < rows
     → seek isOne content wanted (rows - i) (i + 1)

@@ -2,30 +2,37 @@
 -- rows of names and sets are the tree's names and codes with their sets' numbers.
 use mathlib.Core.Path.{_≡_, refl, sym, _∙_, ap}
 use mathlib.Core.Bool.{Bool, true, false, cond}
-use mathlib.Core.List.{List, map, List·Memᴰ}
-use mathlib.Core.Logic.{_↔_}
-use Prim.Native.Nat.{ℕ, _-_, _<_}
+use mathlib.Core.List.{List, map, flatMap, List·Memᴰ}
+use mathlib.Core.Logic.{_⊎_, inl, inr, _↔_}
+use Prim.Native.Nat.{ℕ, suc, _-_, _≤_, _<_}
 use native.Mathlib.Omega.{arith}
+use lib.Dec.{eqb, leb}
 use lib.ListN.{length, getD, length-map, List·getD-map}
+use borrow.Author.Tests.{eqb-true, eqb-false, leb-true, leb-false}
 use Rattle.star_text.specs.Outcome.{accepted}
 use Rattle.star_lex.specs.Rules.{today}
-use Rattle.star_rows.specs.Rows.{holding}
+use Rattle.star_rows.specs.Rows.{wordOf, holding}
+use Rattle.star_rows.proofs.Words.{word-held}
+use Rattle.star_lex.proofs.Cases.{impossible}
 use Rattle.star_text.specs.Names.{key}
 use Rattle.star_lex.specs.Tokens.{Placed}
 use Rattle.star_grammar.specs.Tree.{File}
 use Rattle.star_grammar.specs.Tables.{SetRow, NameRow, Rows, setWords, nameWords}
+use Rattle.star_grammar.specs.Reading.{blockCode}
 use Rattle.star_grammar.proofs.Widths.{name-wide, set-wide}
 use Rattle.star_grammar.proofs.RowsOf.{contentIn, nameIn, setIn, fileSets, IsToken}
 use Rattle.star_lex.proofs.Each.{each-at}
 use Rattle.star_read.specs.Read.{Sizes, tokensOnly, readOf}
 use Rattle.star_read.proofs.Usable.{today-usable}
 use Rattle.star_read.proofs.Demand3.{rows-of-reading}
-use Rattle.star_find.specs.Find.{rowThere, findName, findBlock, findFrame, isRow, look, refused}
-use Rattle.star_find.specs.Demands.{contentOf, HoldsName, FirstName, LookupByName, SetWith, LookupBlock, HoldsFrame, LookupFrame, ValuesInOrder}
+use Rattle.star_find.specs.Find.{rowThere, ownName, askGlobals, askOn, findName, findBlock, findFrame, isRow, look, refused}
+use Rattle.star_find.specs.Demands.{contentOf, HoldsName, FirstName, blockKinds, IsKind, EarlierHolds, Reaches, NameOf, LookupByName, SetWith, LookupBlock, HoldsFrame, LookupFrame, ValuesInOrder}
 use Rattle.star_find.specs.declared.Found.{Found}
-use Rattle.star_find.proofs.Seeking.{Sought, sought-alike, FirstOf, asked, asked-first, asked-parent, look-sought}
+use Rattle.star_find.proofs.Seeking.{Sought, sought-alike, sought-either, FirstOf, asked, asked-first, asked-parent, look-sought}
+use Rattle.star_find.proofs.Looking.{row-bounds}
 use Rattle.star_find.proofs.Answers.{Answers, place-made, answers}
-use Rattle.star_find.proofs.Numbered.{holds-name, sets-count, holds-frame, sets-count-codes, block-code, code-block}
+use Rattle.star_find.proofs.Asking.{or-first, or-second, NoneAfter, Asked, asked as globals-asked}
+use Rattle.star_find.proofs.Numbered.{holds-name, sets-count, set-kinds, holds-frame, sets-count-codes, block-code, code-block}
 use Rattle.star_find.proofs.After.{left, counted, lent-left, counts-counted, counts-fit, row-inside, content-in, token-content, RowsAfter, rows-after}
 use Rattle.star_find.proofs.Values.{value-found, value-none}
 
@@ -82,8 +89,8 @@ set-with ps rows kind parent code row p = record {
 }
 
 -- the searches through the rows of names and of sets
-looked-names : (file : List ℕ) (words : Sizes) (ps : List Placed) (rows : Rows) (set : ℕ) (name : List ℕ) → Found
-looked-names file words ps rows set name =
+looked-names : (file : List ℕ) (words : Sizes) (ps : List Placed) (rows : Rows) (name : List ℕ) (set : ℕ) → Found
+looked-names file words ps rows name set =
     look (left file words ps rows) (counted ps rows) (holding nameWords (rows .names) (words .names)) 4 set false 0 name (length (rows .names))
 
 looked-sets : (file : List ℕ) (words : Sizes) (ps : List Placed) (rows : Rows) (kind : ℕ) (byParent : Bool) (parent : ℕ) (code : List ℕ) → Found
@@ -93,8 +100,9 @@ looked-sets file words ps rows kind byParent parent code =
 -- a lookup is its search, after the check of a set's number
 module _ (file : List ℕ) (words : Sizes) (ps : List Placed) (rows : Rows) where
   find-name : (set : ℕ) (name : List ℕ)
-      → findName (left file words ps rows) (counted ps rows) set name ≡ cond (isRow (length (rows .sets)) set) (looked-names file words ps rows set name) (refused 14)
-  unfolding findName rowThere left counted looked-names
+      → findName (left file words ps rows) (counted ps rows) set name
+      ≡ cond (isRow (length (rows .sets)) set) (askOn (holding setWords (rows .sets) (words .sets)) (looked-names file words ps rows name) set) (refused 14)
+  unfolding findName ownName rowThere left counted looked-names
   find-name set name = rw (counts-fit file words ps rows)
 
   find-block : (code : List ℕ) → findBlock (left file words ps rows) (counted ps rows) code ≡ looked-sets file words ps rows 1 false 0 code
@@ -109,7 +117,7 @@ module _ (file : List ℕ) (words : Sizes) (ps : List Placed) (rows : Rows) wher
 -- the rows that each search answers, and what they are in the tree
 module _ (file : List ℕ) (words : Sizes) (ps : List Placed) (rows : Rows) (e : readOf file words ≡ accepted (ps, rows)) (f : File) (k : RowsAfter ps rows f) where
   names-sought : (set : ℕ) (name : List ℕ)
-      → Sought (λ i. HasName ps set name (getD (rows .names) i noName)) (length (rows .names)) (looked-names file words ps rows set name)
+      → Sought (λ i. HasName ps set name (getD (rows .names) i noName)) (length (rows .names)) (looked-names file words ps rows name set)
   unfolding looked-names left counted nameWords
   names-sought set name =
       sought-alike (λ i h. let a : (asked set false 0 (nameWords (getD (rows .names) i noName)) ≡ true) ↔ (getD (rows .names) i noName .set ≡ set)
@@ -156,22 +164,119 @@ module _ (file : List ℕ) (words : Sizes) (ps : List Placed) (rows : Rows) (e :
   sets-are : length (rows .sets) ≡ length (fileSets 0 f)
   sets-are = sym (length-map (rows .sets) (setIn (tokensOnly ps))) ∙ ap length (k .sets)
 
-  name-answers : (set : ℕ) (name : List ℕ)
-      → Answers (HoldsName f set name) (λ i. HasName ps set name (getD (rows .names) i noName)) (length (rows .names))
-      (findName (left file words ps rows) (counted ps rows) set name)
-  name-answers set name =
-      rw (find-name file words ps rows set name)
-      (answers (nameIn (tokensOnly ps)) (set, key name) (HasName ps set name) (has-name ps set name) (rows .names) noName (isRow (length (rows .sets)) set)
-      (looked-names file words ps rows set name) (names-sought set name) (HoldsName f set name) (λ m. holds-name f set name .0 (rw (k .names) at m))
-      (λ h. (row-inside (length (rows .sets)) set (h .low) (omega (arith, h .high, sets-are, sets-count 0 f)), rw (k .names) (holds-name f set name .1 h))))
+  -- the kind word of a set's row is the kind of the set
+  set-kind : (set : ℕ) → 1 ≤ set → set ≤ length (rows .sets)
+      → wordOf (holding setWords (rows .sets) (words .sets)) 3 set 0 ≡ getD (flatMap blockKinds f) (set - 1) 0
+  unfolding setWords
+  set-kind set low high =
+      let i : ℕ = set - 1 in
+      let first : ℕ × ℕ × List ℕ → ℕ = λ x. x .0 in
+      ap (λ n. wordOf (holding setWords (rows .sets) (words .sets)) 3 n 0) (let q : set ≡ suc (set - 1) = omega arith in q)
+      ∙ word-held 3 setWords set-wide noSet (rows .sets) (words .sets) i 0 (omega arith) (omega arith)
+      ∙ sym (ap first (List·getD-map (setIn (tokensOnly ps)) (rows .sets) i noSet))
+      ∙ sym (List·getD-map first (map (setIn (tokensOnly ps)) (rows .sets)) i (setIn (tokensOnly ps) noSet))
+      ∙ ap (λ xs. getD (map first xs) i 0) (k .sets)
+      ∙ ap (λ ks. getD ks i 0) (set-kinds 0 f)
+
+  kinds-count : length (flatMap blockKinds f) ≡ length (rows .sets)
+  kinds-count = sym (ap length (set-kinds 0 f)) ∙ length-map (fileSets 0 f) (λ x. x .0) ∙ sym sets-are
+
+  own-answers : (name : List ℕ) (set : ℕ)
+      → Answers (HoldsName f set name) (λ i. HasName ps set name (getD (rows .names) i noName)) (length (rows .names)) (looked-names file words ps rows name set)
+  own-answers name set =
+      answers (nameIn (tokensOnly ps)) (set, key name) (HasName ps set name) (has-name ps set name) (rows .names) noName true
+      (looked-names file words ps rows name set) (names-sought set name) (HoldsName f set name) (λ m. holds-name f set name .0 (rw (k .names) at m))
+      (λ h. (refl, rw (k .names) (holds-name f set name .1 h)))
+
+  -- what a lookup by name answers: the search through the names of the set whose name it is, or a refusal where the name is not in reach
+  data Named (set : ℕ) (name : List ℕ) : Found → Type 0 where
+    at : (of : ℕ) → NameOf f set name of → looked-names file words ps rows name of .refusal ≡ 0 → Named set name (looked-names file words ps rows name of)
+    nowhere : (n : ℕ) → 0 < n → (Reaches f set name → ⊥) → Named set name (refused n)
+
+  module _ (set : ℕ) (name : List ℕ) where
+    abbrev table : List ℕ
+    table = holding setWords (rows .sets) (words .sets)
+
+    abbrev ask : ℕ → Found
+    ask = looked-names file words ps rows name
+
+    -- the set is a row, and does not hold the name
+    module _ (low : 1 ≤ set) (high : set ≤ length (rows .sets)) (not-own : HoldsName f set name → ⊥) where
+      from-globals : IsKind f 1 set → Asked table ask (λ s. HoldsName f s name) (set - 1) → Named set name (askGlobals table ask (set - 1))
+      from-globals block (Asked.at g l h kind holds none e) =
+          let is-global : IsKind f 3 g = record { low = l; high = omega (arith, kinds-count); is = sym (set-kind g l (omega arith)) ∙ kind } in
+          rw e (Named.at g
+          (NameOf.nearest not-own block g (record { earlier = omega arith; is-global = is-global; holds = holds }) (nearer g none)) (own-answers name g .0 .1 holds))
+        where
+          nearer : (g : ℕ) → NoneAfter table (λ s. HoldsName f s name) g (set - 1) → (other : ℕ) → EarlierHolds f set name other → other ≤ g
+          nearer g none other o = go (leb other g) refl
+            where
+              go : (t : Bool) → leb other g ≡ t → other ≤ g
+              go true q = leb-true other g q
+              go false q =
+                  absurd (none other (leb-false other g q) (omega (arith, o .earlier))
+                  (set-kind other (o .is-global .low) (omega (arith, o .earlier)) ∙ o .is-global .is) (o .holds))
+      from-globals block (Asked.nowhere none e) = rw e (Named.nowhere 13 (omega arith) never)
+        where
+          never : Reaches f set name → ⊥
+          never (Reaches.itself h) = not-own h
+          never (Reaches.earlier b g o) =
+              none g (omega (arith, o .is-global .low)) (omega (arith, o .earlier))
+              (set-kind g (o .is-global .low) (omega (arith, o .earlier)) ∙ o .is-global .is) (o .holds)
+
+      from-outside : (t : Bool) → eqb (wordOf table 3 set 0) 1 ≡ t → Named set name (cond t (askGlobals table ask (set - 1)) (refused 13))
+      from-outside true q =
+          from-globals (record { low = low; high = omega (arith, kinds-count); is = sym (set-kind set low high) ∙ eqb-true _ _ q })
+          (globals-asked table ask (λ s. HoldsName f s name) (λ s. sought-either (names-sought s name)) (λ s. own-answers name s .0 .0) (λ s. own-answers name s .0 .1) (set - 1))
+      from-outside false q = Named.nowhere 13 (omega arith) never
+        where
+          never : Reaches f set name → ⊥
+          never (Reaches.itself h) = not-own h
+          never (Reaches.earlier b g o) = eqb-false _ _ q (set-kind set low high ∙ b .is)
+
+    named-row : 1 ≤ set → set ≤ length (rows .sets) → (ask set .refusal ≡ 0) ⊎ (ask set ≡ refused 13) → Named set name (askOn table ask set)
+    unfolding askOn refused
+    named-row low high (inl e) =
+        rw (or-first (ask set) (cond (eqb (wordOf table 3 set 0) 1) (askGlobals table ask (set - 1)) (refused 13)) (λ q. omega (arith, e)))
+        (Named.at set (NameOf.itself (own-answers name set .0 .0 e)) e)
+    named-row low high (inr e) =
+        let r : ask set .refusal ≡ 13 = ap (λ o. o .refusal) e in
+        rw (or-second (ask set) (cond (eqb (wordOf table 3 set 0) 1) (askGlobals table ask (set - 1)) (refused 13)) r)
+        (from-outside low high (λ h. let z : _≡_ {A = ℕ} 13 0 = sym r ∙ own-answers name set .0 .1 h in omega arith) (eqb (wordOf table 3 set 0) 1) refl)
+
+    named-check : (t : Bool) → isRow (length (rows .sets)) set ≡ t → Named set name (cond t (askOn table ask set) (refused 14))
+    named-check true q =
+        let b : (1 ≤ set) × (set ≤ length (rows .sets)) = row-bounds (length (rows .sets)) set q in
+        named-row (b .0) (b .1) (sought-either (names-sought set name))
+    named-check false q = Named.nowhere 14 (omega arith) never
+      where
+        outside : 1 ≤ set → set ≤ length (rows .sets) → ⊥
+        outside low high = impossible (cc (row-inside (length (rows .sets)) set low high))
+
+        never : Reaches f set name → ⊥
+        never (Reaches.itself h) = outside (h .low) (omega (arith, h .high, sets-are, sets-count 0 f))
+        never (Reaches.earlier b g o) = outside (b .low) (omega (arith, b .high, kinds-count))
+
+    named : Named set name (findName (left file words ps rows) (counted ps rows) set name)
+    named = rw (find-name file words ps rows set name) (named-check (isRow (length (rows .sets)) set) refl)
+
+    of-reaches : {of : ℕ} → NameOf f set name of → Reaches f set name
+    of-reaches (NameOf.itself h) = Reaches.itself h
+    of-reaches (NameOf.nearest n b g o m) = Reaches.earlier b g o
+
+    name-answers : {o : Found} → Named set name o
+        → ((o .refusal ≡ 0) ↔ Reaches f set name) × (o .refusal ≡ 0 → (of : ℕ) × NameOf f set name of × FirstName ps rows of name (o .row))
+    unfolding refused
+    name-answers (Named.at of n e) = ((λ h. of-reaches n, λ h. e), λ h. (of, n, first-name ps rows of name _ (own-answers name of .1 e)))
+    name-answers (Named.nowhere n l f) = ((λ h. absurd (omega arith), λ h. absurd (f h)), λ h. absurd (omega arith))
 
   block-answers : (code : List ℕ)
-      → Answers (List·Memᴰ (key code) (map (λ b. key (b .heading .content)) f)) (λ i. HasCode ps 1 0 code (getD (rows .sets) i noSet)) (length (rows .sets))
+      → Answers (List·Memᴰ (key code) (flatMap blockCode f)) (λ i. HasCode ps 1 0 code (getD (rows .sets) i noSet)) (length (rows .sets))
       (findBlock (left file words ps rows) (counted ps rows) code)
   block-answers code =
       rw (find-block file words ps rows code)
       (answers (setIn (tokensOnly ps)) (1, 0, key code) (HasCode ps 1 0 code) (has-code ps 1 0 code) (rows .sets) noSet true
-      (looked-sets file words ps rows 1 false 0 code) (blocks-sought code) (List·Memᴰ (key code) (map (λ b. key (b .heading .content)) f)) (λ m. block-code 0 f 0 (key code) (rw (k .sets) at m) .1)
+      (looked-sets file words ps rows 1 false 0 code) (blocks-sought code) (List·Memᴰ (key code) (flatMap blockCode f)) (λ m. block-code 0 f 0 (key code) (rw (k .sets) at m) .1)
       (λ h. (refl, rw (k .sets) (code-block 0 f (key code) h))))
 
   frame-answers : (set : ℕ) (code : List ℕ)
@@ -186,14 +291,13 @@ module _ (file : List ℕ) (words : Sizes) (ps : List Placed) (rows : Rows) (e :
 -- demand 3, fifth sentence
 pub lookup-by-name : LookupByName
 lookup-by-name file words ps rows e r set name =
-    let a : Answers (HoldsName (r .tree) set name) (λ i. HasName ps set name (getD (rows .names) i noName)) (length (rows .names))
-    (findName (left file words ps rows) (counted ps rows) set name)
-    = name-answers file words ps rows e (r .tree) (rows-after file words ps rows e r) set name in
-    rw (lent-left file words ps rows e, counts-counted file words ps rows e) (a .0, λ h. first-name ps rows set name _ (a .1 h))
+    let k : RowsAfter ps rows (r .tree) = rows-after file words ps rows e r in
+    rw (lent-left file words ps rows e, counts-counted file words ps rows e)
+    (name-answers file words ps rows e (r .tree) k set name (named file words ps rows e (r .tree) k set name))
 
 pub lookup-block : LookupBlock
 lookup-block file words ps rows e r code =
-    let a : Answers (List·Memᴰ (key code) (map (λ b. key (b .heading .content)) (r .tree))) (λ i. HasCode ps 1 0 code (getD (rows .sets) i noSet)) (length (rows .sets))
+    let a : Answers (List·Memᴰ (key code) (flatMap blockCode (r .tree))) (λ i. HasCode ps 1 0 code (getD (rows .sets) i noSet)) (length (rows .sets))
     (findBlock (left file words ps rows) (counted ps rows) code)
     = block-answers file words ps rows e (r .tree) (rows-after file words ps rows e r) code in
     rw (lent-left file words ps rows e, counts-counted file words ps rows e) (a .0, λ h. set-with ps rows 1 0 code _ (a .1 h))

@@ -1,7 +1,8 @@
 -- The names and frame codes of a tree, each with the number of its set, against the sets' own lists: a set's names and codes have its number,
 -- and the frames of a block are numbered after it.
-use mathlib.Core.Path.{_≡_, refl, sym, ap}
-use mathlib.Core.List.{List, [], _∷_, _++_, map, flatMap, append-assoc, map-append, List·Memᴰ, List·Memᴰ·head, List·Memᴰ·tail, List·Memᴰ·not-nil, List·Memᴰ·cases-cons, List·Memᴰ·append-cases, Memᴰ·append-left, Memᴰ·append-right, Memᴰ·cast, Memᴰ·map, Memᴰ·of-map}
+use mathlib.Core.Path.{_≡_, refl, sym, ap, _∙_}
+use mathlib.Core.Bool.{Bool, true, false, cond}
+use mathlib.Core.List.{List, [], _∷_, _++_, map, flatMap, append-assoc, map-append, List·Memᴰ, List·Memᴰ·head, List·Memᴰ·tail, List·Memᴰ·not-nil, List·Memᴰ·cases-cons, List·Memᴰ·append-cases, List·Memᴰ·eq-of-singleton, Memᴰ·append-left, Memᴰ·append-right, Memᴰ·cast, Memᴰ·map, Memᴰ·of-map}
 use mathlib.Core.Logic.{_↔_, ⊎-elim}
 use Prim.Native.Nat.{ℕ, zero, suc, _+_, _-_, _≤_, _<_}
 use native.Mathlib.Nat.{add-zero, suc-add, add-suc}
@@ -9,10 +10,11 @@ use native.Mathlib.Numerals.{add-one}
 use native.Mathlib.Omega.{arith}
 use lib.ListN.{length, getD, length-append, length-map}
 use Rattle.star_text.specs.Names.{key}
-use Rattle.star_grammar.specs.Tree.{Member, own, framed, Block, File}
-use Rattle.star_grammar.specs.Reading.{entryNames, ownNames, frameCodes}
+use Rattle.star_grammar.specs.Tree.{Member, own, framed, Block, isGlobal, File}
+use Rattle.star_grammar.specs.Tables.{blockKind}
+use Rattle.star_grammar.specs.Reading.{entryNames, ownNames, frameCodes, blockCode}
 use Rattle.star_grammar.proofs.RowsOf.{of, framesOf, membersNames, fileNames, fileSets}
-use Rattle.star_find.specs.Demands.{frameNames, blockNames, HoldsName, noCodes, blockCodes, HoldsFrame}
+use Rattle.star_find.specs.Demands.{frameNames, blockNames, HoldsName, frameKinds, blockKinds, noCodes, blockCodes, HoldsFrame}
 
 -- two lists have the same elements
 pub record Alike {A : Type 0} (xs ys : List A) : Type 0 where
@@ -174,9 +176,26 @@ frames-member {kind} {parent} {code} block codes m =
     let k : (a : List ℕ) × List·Memᴰ a codes × (_≡_ {A = ℕ × ℕ × List ℕ} (2, block, a) (kind, parent, code)) = Memᴰ·of-map (λ c. (2, block, c)) codes m in
     (sym (ap (λ p. p .0) (k .2)), sym (ap (λ p. p .1) (k .2)), Memᴰ·cast (sym (ap (λ p. p .2) (k .2))) (k .1))
 
+-- a block is no frame; a data block's code is its heading's, and a global block has none
+no-frame : (b : Block) → 2 ≡ blockKind b → ⊥
+unfolding blockKind
+no-frame b e = go (isGlobal b) e
+  where
+    go : (t : Bool) → _≡_ {A = ℕ} 2 (cond t 3 1) → ⊥
+    go true q = omega arith
+    go false q = omega arith
+
+coded : (b : Block) (code : List ℕ) → ((1 ≡ blockKind b) × (code ≡ key (b .heading .content))) ↔ List·Memᴰ code (blockCode b)
+unfolding blockKind blockCode
+coded b code = go (isGlobal b)
+  where
+    go : (t : Bool) → ((_≡_ {A = ℕ} 1 (cond t 3 1)) × (code ≡ key (b .heading .content))) ↔ List·Memᴰ code (cond t [] (key (b .heading .content) ∷ []))
+    go true = (λ h. absurd (let z : _≡_ {A = ℕ} 1 3 = h .0 in omega arith), λ m. absurd (List·Memᴰ·not-nil m))
+    go false = (λ h. List·Memᴰ·head (h .1), λ m. (refl, List·Memᴰ·eq-of-singleton m))
+
 -- a set of a file: the first block, a frame of it, or a set of the further blocks
 set-cases {ℓ} : {P : Type ℓ} (sets kind parent : ℕ) (code : List ℕ) (b : Block) (f : File) → List·Memᴰ (kind, parent, code) (fileSets sets (b ∷ f))
-    → (kind ≡ 1 → parent ≡ 0 → code ≡ key (b .heading .content) → P)
+    → (kind ≡ blockKind b → parent ≡ 0 → code ≡ key (b .heading .content) → P)
     → (kind ≡ 2 → parent ≡ suc sets → List·Memᴰ code (flatMap frameCodes (b .members)) → P)
     → (List·Memᴰ (kind, parent, code) (fileSets (suc sets + length (flatMap frameCodes (b .members))) f) → P) → P
 set-cases sets kind parent code b f m block frame further =
@@ -192,7 +211,7 @@ frame-numbered sets [] set code m = absurd (List·Memᴰ·not-nil m)
 frame-numbered sets (b ∷ f) set code m =
     let codes : List (List ℕ) = flatMap frameCodes (b .members) in
     rw (codes-numbered sets b f)
-    (set-cases sets 2 set code b f m (λ k p c. absurd (omega arith))
+    (set-cases sets 2 set code b f m (λ k p c. absurd (no-frame b k))
     (λ k p c. rw p (Memᴰ·append-left (numbered (suc sets + length codes) (flatMap blockCodes f)) (member-of (suc sets) c)))
     (λ n. Memᴰ·append-right (of (suc sets) codes) (frame-numbered (suc sets + length codes) f set code n)))
 
@@ -224,20 +243,39 @@ sets-count-codes sets (b ∷ f) =
     let ms : List Member = b .members in
     simp (length-append, length-map) (omega (arith, no-codes-count ms, sets-count-codes (suc sets + length (flatMap frameCodes ms)) f))
 
--- a block's row is in the tree exactly when a block has its code
+-- a data block's row is in the tree exactly when a data block has its code
 pub block-code : (sets : ℕ) (f : File) (parent : ℕ) (code : List ℕ) → List·Memᴰ (1, parent, code) (fileSets sets f)
-    → (parent ≡ 0) × List·Memᴰ code (map (λ b. key (b .heading .content)) f)
+    → (parent ≡ 0) × List·Memᴰ code (flatMap blockCode f)
+unfolding flatMap
 block-code sets [] parent code m = absurd (List·Memᴰ·not-nil m)
 block-code sets (b ∷ f) parent code m =
-    set-cases sets 1 parent code b f m (λ k p c. (p, List·Memᴰ·head c)) (λ k p c. absurd (omega arith))
-    (λ n. let k : (parent ≡ 0) × List·Memᴰ code (map (λ b. key (b .heading .content)) f)
-    = block-code (suc sets + length (flatMap frameCodes (b .members))) f parent code n in (k .0, List·Memᴰ·tail (k .1)))
+    set-cases sets 1 parent code b f m (λ k p c. (p, Memᴰ·append-left (flatMap blockCode f) (coded b code .0 (k, c)))) (λ k p c. absurd (omega arith))
+    (λ n. let k : (parent ≡ 0) × List·Memᴰ code (flatMap blockCode f)
+    = block-code (suc sets + length (flatMap frameCodes (b .members))) f parent code n in (k .0, Memᴰ·append-right (blockCode b) (k .1)))
 
-pub code-block : (sets : ℕ) (f : File) (code : List ℕ) → List·Memᴰ code (map (λ b. key (b .heading .content)) f)
-    → List·Memᴰ (1, 0, code) (fileSets sets f)
+pub code-block : (sets : ℕ) (f : File) (code : List ℕ) → List·Memᴰ code (flatMap blockCode f) → List·Memᴰ (1, 0, code) (fileSets sets f)
+unfolding flatMap
 code-block sets [] code m = absurd (List·Memᴰ·not-nil m)
 code-block sets (b ∷ f) code m =
     let codes : List (List ℕ) = flatMap frameCodes (b .members) in
-    ⊎-elim (λ e. List·Memᴰ·head (ap (λ c. (1, 0, c)) e))
+    ⊎-elim
+    (λ n. let h : (1 ≡ blockKind b) × (code ≡ key (b .heading .content)) = coded b code .1 n in
+    List·Memᴰ·head (λ i. (h .0 i, 0, h .1 i)))
     (λ n. List·Memᴰ·tail (Memᴰ·append-right (framesOf (suc sets) codes) (code-block (suc sets + length codes) f code n)))
-    (List·Memᴰ·cases-cons m)
+    (List·Memᴰ·append-cases (blockCode b) m)
+
+-- the kinds of a tree's sets
+frames-kinds : (block : ℕ) (ms : List Member) → map (λ x. x .0) (framesOf block (flatMap frameCodes ms)) ≡ flatMap frameKinds ms
+unfolding flatMap frameCodes frameKinds
+frames-kinds block [] = refl
+frames-kinds block (own e ∷ ms) = frames-kinds block ms
+frames-kinds block (framed f ∷ ms) = ap (λ ks. 2 ∷ ks) (frames-kinds block ms)
+
+pub set-kinds : (sets : ℕ) (f : File) → map (λ x. x .0) (fileSets sets f) ≡ flatMap blockKinds f
+unfolding flatMap blockKinds
+set-kinds sets [] = refl
+set-kinds sets (b ∷ f) =
+    let codes : List (List ℕ) = flatMap frameCodes (b .members) in
+    ap (λ ks. blockKind b ∷ ks)
+    (map-append (λ x. x .0) (framesOf (suc sets) codes) (fileSets (suc sets + length codes) f)
+    ∙ rw (frames-kinds (suc sets) (b .members), set-kinds (suc sets + length codes) f))

@@ -1,11 +1,11 @@
 -- A search through rows answers the first that is asked for and has the wanted bytes, or 13 where there is none: each row is met in turn, and
 -- none before it had them. On a table that holds rows it is a search through the list of rows, whatever their width.
-use mathlib.Core.Path.{_≡_, refl, sym, _∙_, ap}
+use mathlib.Core.Path.{_≡_, refl, sym, _∙_}
 use mathlib.Core.Bool.{Bool, true, false, cond, not, _&&_, _||_, and-eq-true-iff}
 use mathlib.Core.List.{List}
-use mathlib.Core.Logic.{_↔_}
+use mathlib.Core.Logic.{_⊎_, inl, inr, _↔_}
 use mathlib.Core.Option.{Option, some}
-use Prim.Native.Nat.{ℕ, zero, suc, _+_, _-_, _*_, _≤_, _<_}
+use Prim.Native.Nat.{ℕ, zero, suc, _+_, _-_, _≤_, _<_}
 use native.Mathlib.Omega.{arith}
 use borrow.Author.Tests.{eqb-true, eqb-false, eq-eqb}
 use lib.Dec.{eqb}
@@ -33,6 +33,11 @@ pub sought-there : {P : ℕ → Type 0} {n : ℕ} {f : Found} → Sought P n f �
 unfolding found
 sought-there (Sought.there j k q b) i l p = refl
 sought-there (Sought.absent b) i l p = absurd (b i l p)
+
+pub sought-either : {P : ℕ → Type 0} {n : ℕ} {f : Found} → Sought P n f → (f .refusal ≡ 0) ⊎ (f ≡ refused 13)
+unfolding found
+sought-either (Sought.there i l p b) = inl refl
+sought-either (Sought.absent b) = inr refl
 
 -- what is found is there, the first
 pub record FirstOf (P : ℕ → Type 0) (n row : ℕ) : Type 0 where

@@ -10,8 +10,8 @@ use Rattle.star_text.specs.Outcome.{accepted}
 use Rattle.star_text.specs.Names.{key}
 use Rattle.star_lex.specs.Tokens.{Placed, opening}
 use Rattle.star_grammar.specs.Tree.{Member, own, framed, Block, File}
-use Rattle.star_grammar.specs.Tables.{Rows, ValueRow}
-use Rattle.star_grammar.specs.Reading.{Reading, entryNames, ownNames, frameCodes}
+use Rattle.star_grammar.specs.Tables.{Rows, ValueRow, blockKind}
+use Rattle.star_grammar.specs.Reading.{Reading, entryNames, ownNames, frameCodes, blockCode}
 use Rattle.star_read.specs.Read.{Sizes, tokensOnly, readOf}
 use Rattle.star_read.specs.Answer.{readAnswer, Tables, tablesOf}
 use Rattle.star_read.specs.declared.Answer.{Answer}
@@ -59,14 +59,45 @@ pub record FirstName (ps : List Placed) (rows : Rows) (set : ℕ) (name : List �
   pub first : (other : ℕ) → 1 ≤ other → other < row → getD (map (λ r. r .set) (rows .names)) (other - 1) 0 ≡ set
       → key (contentOf ps (getD (map (λ r. r .name) (rows .names)) (other - 1) 0)) ≡ key name → ⊥
 
+-- the kinds of the sets of a tree, in the same order: 1 a data block, 2 a frame, 3 a global block
+unfoldable pub frameKinds : Member → List ℕ
+frameKinds (own e) = []
+frameKinds (framed f) = 2 ∷ []
+
+unfoldable pub blockKinds : Block → List ℕ
+blockKinds b = blockKind b ∷ flatMap frameKinds (b .members)
+
+-- there is a set of that number, and it is of this kind
+pub record IsKind (f : File) (kind set : ℕ) : Type 0 where
+  pub low : 1 ≤ set
+  pub high : set ≤ length (flatMap blockKinds f)
+  pub is : getD (flatMap blockKinds f) (set - 1) 0 ≡ kind
+
+-- an earlier global block holds the name
+pub record EarlierHolds (f : File) (set : ℕ) (name : List ℕ) (global : ℕ) : Type 0 where
+  pub earlier : global < set
+  pub is-global : IsKind f 3 global
+  pub holds : HoldsName f global name
+
+-- the set or, for a data block, an earlier global block holds the name
+pub data Reaches (f : File) (set : ℕ) (name : List ℕ) : Type 0 where
+  itself : HoldsName f set name → Reaches f set name
+  earlier : IsKind f 1 set → (global : ℕ) → EarlierHolds f set name global → Reaches f set name
+
+-- the set whose name it is: the set itself or, where that does not hold it, the nearest of the earlier global blocks
+pub data NameOf (f : File) (set : ℕ) (name : List ℕ) : (of : ℕ) → Type 0 where
+  itself : HoldsName f set name → NameOf f set name set
+  nearest : (HoldsName f set name → ⊥) → IsKind f 1 set → (global : ℕ) → EarlierHolds f set name global
+      → ((other : ℕ) → EarlierHolds f set name other → other ≤ global) → NameOf f set name global
+
 -- demand 3, fifth sentence: after acceptance, for any set number and any name, lookup by name succeeds exactly when there is a set of that
--- number and it holds the name, and answers the first row with an equal name
+-- number and it or, for a data block, an earlier global block holds the name, and answers the first row with an equal name of the set whose name it is
 abbrev pub LookupByName : Type 0
 LookupByName = (file : List ℕ) (words : Sizes) (ps : List Placed) (rows : Rows) → readOf file words ≡ accepted (ps, rows)
     → (r : Reading (tokensOnly ps)) (set : ℕ) (name : List ℕ)
-    → ((findName (lentAfter file words) (countsAfter file words) set name .refusal ≡ 0) ↔ HoldsName (r .tree) set name)
+    → ((findName (lentAfter file words) (countsAfter file words) set name .refusal ≡ 0) ↔ Reaches (r .tree) set name)
     × (findName (lentAfter file words) (countsAfter file words) set name .refusal ≡ 0
-    → FirstName ps rows set name (findName (lentAfter file words) (countsAfter file words) set name .row))
+    → (of : ℕ) × NameOf (r .tree) set name of × FirstName ps rows of name (findName (lentAfter file words) (countsAfter file words) set name .row))
 
 -- a set row of that kind and parent whose code is equal to this one
 pub record SetWith (ps : List Placed) (rows : Rows) (kind parent : ℕ) (code : List ℕ) (row : ℕ) : Type 0 where
@@ -76,11 +107,11 @@ pub record SetWith (ps : List Placed) (rows : Rows) (kind parent : ℕ) (code : 
   pub of-parent : getD (map (λ r. r .parent) (rows .sets)) (row - 1) 0 ≡ parent
   pub equal : key (contentOf ps (getD (map (λ r. r .heading) (rows .sets)) (row - 1) 0)) ≡ key code
 
--- block lookup succeeds exactly when a block of that code is in the reading
+-- block lookup succeeds exactly when a data block of that code is in the reading
 abbrev pub LookupBlock : Type 0
 LookupBlock = (file : List ℕ) (words : Sizes) (ps : List Placed) (rows : Rows) → readOf file words ≡ accepted (ps, rows)
     → (r : Reading (tokensOnly ps)) (code : List ℕ)
-    → ((findBlock (lentAfter file words) (countsAfter file words) code .refusal ≡ 0) ↔ List·Memᴰ (key code) (map (λ b. key (b .heading .content)) (r .tree)))
+    → ((findBlock (lentAfter file words) (countsAfter file words) code .refusal ≡ 0) ↔ List·Memᴰ (key code) (flatMap blockCode (r .tree)))
     × (findBlock (lentAfter file words) (countsAfter file words) code .refusal ≡ 0
     → SetWith ps rows 1 0 code (findBlock (lentAfter file words) (countsAfter file words) code .row))
 
@@ -92,7 +123,7 @@ noCodes (framed f) = [] ∷ []
 unfoldable pub blockCodes : Block → List (List (List ℕ))
 blockCodes b = flatMap frameCodes (b .members) ∷ flatMap noCodes (b .members)
 
--- there is a set of that number, a block, and it has a frame of that code
+-- there is a set of that number, a data block or a global block, and it has a frame of that code
 pub record HoldsFrame (f : File) (set : ℕ) (code : List ℕ) : Type 0 where
   pub low : 1 ≤ set
   pub high : set ≤ length (flatMap blockCodes f)

@@ -79,9 +79,27 @@ countsFit l c = fits (l .tokens) (l .sets) (l .names) (l .packets) (l .values) c
 unfoldable pub rowThere : Lent → Counts → (count row : ℕ) → Bool
 rowThere l c count row = countsFit l c && isRow count row
 
--- names of a set by name
+-- a set's own names by name
+unfoldable pub ownName : Lent → Counts → (name : List ℕ) → (set : ℕ) → Found
+ownName l c name set = look l c (l .names) nameWidth set false 0 name (c .names)
+
+-- an answer, or another where it is 13
+unfoldable pub orElse : Found → Found → Found
+orElse f g = cond (eqb (f .refusal) 13) g f
+
+-- the global blocks among the first so many sets are asked, the last first, until one does not answer 13
+unfoldable pub askGlobals : (sets : List ℕ) → (ask : (set : ℕ) → Found) → (rows : ℕ) → Found
+askGlobals sets ask zero = refused 13
+askGlobals sets ask (suc row) =
+    cond (eqb (wordOf sets setWidth (suc row) 0) 3) (orElse (ask (suc row)) (askGlobals sets ask row)) (askGlobals sets ask row)
+
+-- a set is asked and, where it is a data block and answers 13, the global blocks before it
+unfoldable pub askOn : (sets : List ℕ) → (ask : (set : ℕ) → Found) → (set : ℕ) → Found
+askOn sets ask set = orElse (ask set) (cond (eqb (wordOf sets setWidth set 0) 1) (askGlobals sets ask (set - 1)) (refused 13))
+
+-- names by name: those of the set or, for a data block, of the nearest earlier global block that does not answer 13
 unfoldable pub findName : Lent → Counts → (set : ℕ) → (name : List ℕ) → Found
-findName l c set name = cond (rowThere l c (c .sets) set) (look l c (l .names) nameWidth set false 0 name (c .names)) (refused 14)
+findName l c set name = cond (rowThere l c (c .sets) set) (askOn (l .sets) (ownName l c name) set) (refused 14)
 
 -- blocks by code
 unfoldable pub findBlock : Lent → Counts → (code : List ℕ) → Found

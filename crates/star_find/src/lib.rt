@@ -1,14 +1,14 @@
 // Lookup by name and code. The tables, the counts and the numbers may hold anything, and nothing is written.
 ghost use mathlib.Core.Path.{_≡_};
-ghost use mathlib.Core.Bool.{cond, _&&_};
+ghost use mathlib.Core.Bool.{false, cond, _&&_};
 ghost use Prim.Native.Nat.{_-_};
-ghost use lib.Dec.{eqb};
+ghost use lib.Dec.{eqb, ltb};
 ghost use denote.Ref.{ptr};
-ghost use Rattle.star_rows.specs.Widths.{tokenWidth, valueWidth};
+ghost use Rattle.star_rows.specs.Widths.{tokenWidth, setWidth, nameWidth, valueWidth};
 ghost use Rattle.star_rows.specs.Rows.{wordOf};
 ghost use Rattle.star_lex.specs.Answer.{isSome};
 ghost use Rattle.star_lex.specs.Table.{orEmpty, further};
-ghost use Rattle.star_find.specs.Find.{lent, fits, isRow, contentAt, rowThere, findBlock, findFrame, findName, isWanted, matchOf, seek as Find·seek, kth, locate as Find·locate, valueAt, valuePart, valueSpan};
+ghost use Rattle.star_find.specs.Find.{lent, fits, isRow, contentAt, rowThere, refused, meet, findBlock, findFrame, askGlobals, askOn, findName, isWanted, matchOf, seek as Find·seek, kth, locate as Find·locate, valueAt, valuePart, valueSpan};
 ghost use Rattle.star_find.specs.declared.Match.the-variants.{Other};
 
 // How many rows each table has.
@@ -309,7 +309,118 @@ pub fn find_frame(
     }
 }
 
-// The first name of a set with these bytes.
+// What a name row answers by the token in its second word: its number where that has these bytes, 14 where it points outside, else 13.
+fn row_answer(
+    file: &[u8],
+    tokens: &[u32],
+    count: u32,
+    names: &[u32],
+    row: u32,
+    bytes: &[u8],
+) -> Found
+    ensures { λ r. ⌜ r ≡ meet (now (bytes .entry)) row
+        (contentAt (now (file .entry)) (now (tokens .entry)) count (wordOf (now (names .entry)) nameWidth row 1)) (refused 13) ⌝ }
+{
+    let token = star_rows::word(names, star_rows::NAME_WIDTH, row, 1);
+    match compare(file, tokens, count, token, bytes) {
+        Match::Outside => Found {
+            refusal: 14,
+            row: 0,
+        },
+        Match::Equal => Found { refusal: 0, row },
+        Match::Other => Found {
+            refusal: 13,
+            row: 0,
+        },
+    }
+}
+
+// Whether set `s` is a global block after set `near` and before `set`.
+fn is_nearer(sets: &[u32], s: u32, near: u32, set: u32) -> bool
+    ensures { λ r. ⌜ r ≡ (ltb near s && (ltb s set && eqb (wordOf (now (sets .entry)) setWidth s 0) 3)) ⌝ }
+{
+    if s <= near {
+        return false;
+    }
+    if set <= s {
+        return false;
+    }
+    star_rows::word(sets, star_rows::SET_WIDTH, s, 0) == 3
+}
+
+// The answer of the nearest global block before a set that does not answer 13, or 13. Each name row is looked at once: `near` is the nearest so
+// far, 0 for none, and `kept` its answer.
+fn find_global(
+    file: &[u8],
+    tokens: &[u32],
+    count: u32,
+    sets: &[u32],
+    names: &[u32],
+    rows: u32,
+    set: u32,
+    bytes: &[u8],
+) -> Found
+    ensures { λ r. ⌜ r ≡ askGlobals (now (sets .entry)) (λ s. Find·seek (isWanted (now (names .entry)) nameWidth s false 0)
+        (λ row. contentAt (now (file .entry)) (now (tokens .entry)) count (wordOf (now (names .entry)) nameWidth row 1)) (now (bytes .entry)) rows 1)
+        (set - 1) ⌝ }
+{
+    let mut near: u32 = 0;
+    let mut kept = Found {
+        refusal: 13,
+        row: 0,
+    };
+    let mut i: u32 = 0;
+    while i < rows {
+        i += 1;
+        let s = star_rows::word(names, star_rows::NAME_WIDTH, i, 0);
+        if !is_nearer(sets, s, near, set) {
+            continue;
+        }
+        let answer = row_answer(file, tokens, count, names, i, bytes);
+        if answer.refusal == 13 {
+            continue;
+        }
+        near = s;
+        kept = answer;
+    }
+    kept
+}
+
+// The first name of a set with these bytes or, where a data block answers 13, what the global blocks before it answer.
+fn seek_name(
+    file: &[u8],
+    tokens: &[u32],
+    count: u32,
+    sets: &[u32],
+    names: &[u32],
+    rows: u32,
+    set: u32,
+    bytes: &[u8],
+) -> Found
+    ensures { λ r. ⌜ r ≡ askOn (now (sets .entry)) (λ s. Find·seek (isWanted (now (names .entry)) nameWidth s false 0)
+        (λ row. contentAt (now (file .entry)) (now (tokens .entry)) count (wordOf (now (names .entry)) nameWidth row 1)) (now (bytes .entry)) rows 1)
+        set ⌝ }
+{
+    let wanted = Wanted {
+        width: star_rows::NAME_WIDTH,
+        first: set,
+        by_parent: false,
+        parent: 0,
+    };
+    let own = seek(file, tokens, count, names, rows, wanted, bytes);
+    if own.refusal != 13 {
+        return own;
+    }
+    if star_rows::word(sets, star_rows::SET_WIDTH, set, 0) != 1 {
+        return Found {
+            refusal: 13,
+            row: 0,
+        };
+    }
+    find_global(file, tokens, count, sets, names, rows, set, bytes)
+}
+
+// The first name of a set with these bytes or, for a data block, of the nearest earlier global block that does not answer 13.
 pub fn find_name(
     file: &[u8],
     tokens: &[u32],
@@ -335,19 +446,14 @@ pub fn find_name(
         counts.sets,
         set,
     ) {
-        let wanted = Wanted {
-            width: star_rows::NAME_WIDTH,
-            first: set,
-            by_parent: false,
-            parent: 0,
-        };
-        seek(
+        seek_name(
             file,
             tokens,
             counts.tokens,
+            sets,
             names,
             counts.names,
-            wanted,
+            set,
             name,
         )
     } else {

@@ -1,5 +1,5 @@
 -- A run over a tree's yield makes the tree's rows: each piece takes its state to the state after it and puts the piece's rows, whatever follows.
-use mathlib.Core.Path.{_≡_, refl, sym, _∙_}
+use mathlib.Core.Path.{_≡_, refl, sym, ap, _∙_}
 use mathlib.Core.Bool.{true, cond}
 use mathlib.Core.List.{List, [], _∷_, _++_, map, flatMap, reverseAux, append-assoc}
 use Prim.Native.Nat.{ℕ, zero, suc, _+_, _≤_, _<_}
@@ -11,11 +11,11 @@ use lib.ListN.{length, replicate, length-map, length-append}
 use borrow.Author.Tests.{lt-ltb, le-ltb}
 use Rattle.star_lex.specs.Rules.{Rules}
 use Rattle.star_lex.specs.Tokens.{Token, Each}
-use Rattle.star_grammar.specs.Tree.{IsValue, IsName, Inner, Packet, innerYield, packetYield, InnerWhole, PacketWhole, Loop, loopYield, LoopBy, Entry, item, looped, entryYield, EntryBy, Frame, frameYield, FrameBy, Member, own, framed, memberYield, MemberBy, blockYield, File, fileYield, FileBy, frameEnd, loopStart, stop}
-use Rattle.star_grammar.specs.Tables.{Rows, noRows, pass, openLoop, putSet, putName, putPacket, putValue, fold, next, putValues, putInner, putPacketTree, putNames, putDeeper, putStops, putLoop, putEntry, putFrame, putMember, putBlock, rowsOf}
-use Rattle.star_grammar.specs.Machine.{Sort, sortOf, Where, inBlock, inFrame, setOf, Level, parentOf, start, within, named, header, body, go, between, filled, fill, valueAt, begin, headerStep, noValue, noValueAt, bodyStep, startStep, namedStep, step, good, endBetween, endBody, endRun, run}
+use Rattle.star_grammar.specs.Tree.{IsValue, IsName, Inner, Packet, innerYield, packetYield, InnerWhole, PacketWhole, Loop, loopYield, LoopBy, Entry, item, looped, entryYield, EntryBy, Frame, frameYield, FrameBy, Member, own, framed, memberYield, MemberBy, Block, blockYield, IsHeading, isGlobal, File, fileYield, FileBy, frameEnd, loopStart, stop}
+use Rattle.star_grammar.specs.Tables.{Rows, noRows, pass, openLoop, putSet, putName, putPacket, putValue, fold, next, putValues, putInner, putPacketTree, putNames, putDeeper, putStops, putLoop, putEntry, putFrame, putMember, blockKind, putBlock, rowsOf}
+use Rattle.star_grammar.specs.Machine.{Sort, sortOf, Where, inBlock, inFrame, setOf, Level, parentOf, start, within, named, header, body, go, between, filled, fill, valueAt, begin, headerStep, noValue, noValueAt, bodyStep, startStep, namedStep, step, stepAt, good, endBetween, endBody, endRun, run}
 use Rattle.star_grammar.proofs.Counts.{Counts, map-counts}
-use Rattle.star_grammar.proofs.Sorts.{OfSort, sort-block, sort-frame, sort-name, sort-value, sort-frame-end, sort-loop, sort-stop, run-sort, run-go, run-alike}
+use Rattle.star_grammar.proofs.Sorts.{OfSort, sort-block, sort-global, sort-frame, sort-name, sort-value, sort-frame-end, sort-loop, sort-stop, onward, run-onward, run-sort, run-go, run-alike}
 
 -- a level of so many names, the first of this row
 abbrev pub level : (names first packet : ℕ) → Level
@@ -27,12 +27,14 @@ any-packet-step : (rules : Rules) (w : Where) (outer : List Level) (n first k k�
 unfolding step bodyStep noValueAt noValue valueAt
 any-packet-step rules w outer n first k k′ ls Sort.value r = refl
 any-packet-step rules w [] n first k k′ ls Sort.block r = refl
+any-packet-step rules w [] n first k k′ ls Sort.global r = refl
 any-packet-step rules w [] n first k k′ ls Sort.frame r = refl
 any-packet-step rules w [] n first k k′ ls Sort.frameEnd r = refl
 any-packet-step rules w [] n first k k′ ls Sort.loop r = refl
 any-packet-step rules w [] n first k k′ ls Sort.stop r = refl
 any-packet-step rules w [] n first k k′ ls Sort.name r = refl
 any-packet-step rules w (o ∷ outer) n first k k′ ls Sort.block r = refl
+any-packet-step rules w (o ∷ outer) n first k k′ ls Sort.global r = refl
 any-packet-step rules w (o ∷ outer) n first k k′ ls Sort.frame r = refl
 any-packet-step rules w (o ∷ outer) n first k k′ ls Sort.frameEnd r = refl
 any-packet-step rules w (o ∷ outer) n first k k′ ls Sort.loop r = refl
@@ -45,7 +47,7 @@ unfolding run endRun endBody
 any-packet rules w outer n first k k′ ls [] r = refl
 any-packet rules w outer n first k k′ ls (t ∷ ts) r =
     run-alike rules (body w outer (level n first k) ls 0) (body w outer (level n first k′) ls 0) t ts r
-    (λ _. any-packet-step rules w outer n first k k′ ls (sortOf (t .kind)) r)
+    (any-packet-step rules w outer n first k k′ ls (sortOf (t .kind)) r)
 
 -- the rest of a packet's values
 pub fill-values : (rules : Rules) (w : Where) (outer : List Level) (n first k : ℕ) (ls : List ℕ) (f : ℕ) (vs rest : List Token) (r : Rows)
@@ -220,7 +222,7 @@ pub begin-values : (rules : Rules) (w : Where) (first : ℕ) (before : List ℕ)
 begin-values rules w first before n s m ls [] rest r h e l a = absurd (omega (arith, l))
 begin-values rules w first before n s m ls (v ∷ vs) rest r h e l a =
     run-alike rules (header w first before n s) (body w [] (level m first 0) ls 0) v (vs ++ rest) r
-    (λ _. rw (sort-value v (a .0) .sort) (step-begin rules w first before n s m ls r h e))
+    (rw (sort-value v (a .0)) (step-begin rules w first before n s m ls r h e))
 
 begin-packets : (rules : Rules) (w : Where) (first : ℕ) (before : List ℕ) (n s m : ℕ) (ls : List ℕ) (ps : List (Packet ls)) (rest : List Token) (r : Rows)
     → 1 ≤ n → reverseAux before (n ∷ []) ≡ m ∷ ls → 1 ≤ m → 1 ≤ length ps → Each (PacketWhole m ls) ps
@@ -241,13 +243,14 @@ NoValue [] = Unit {0}
 NoValue (t ∷ ts) = OfSort (t .kind) Sort.value → ⊥
 
 pub not-value : (kind : ℕ) (k : Sort) → OfSort kind k → (k ≡ Sort.value → ⊥) → OfSort kind Sort.value → ⊥
-not-value kind k s h q = h (sym (s .sort) ∙ q .sort)
+not-value kind k s h q = h (sym s ∙ q)
 
 -- after a loop's packets, where no value comes: as between the entries of the set
 after-loop-step : (rules : Rules) (w : Where) (l : Level) (ls : List ℕ) (s : Sort) (r : Rows) → (s ≡ Sort.value → ⊥)
     → step rules (body w [] l ls 0) s r ≡ step rules (within w) s r
 unfolding step bodyStep noValueAt noValue
 after-loop-step rules w l ls Sort.block r h = refl
+after-loop-step rules w l ls Sort.global r h = refl
 after-loop-step rules w l ls Sort.frame r h = refl
 after-loop-step rules w l ls Sort.frameEnd r h = refl
 after-loop-step rules w l ls Sort.loop r h = refl
@@ -260,7 +263,7 @@ pub after-loop : (rules : Rules) (w : Where) (l : Level) (ls : List ℕ) (ts : L
 unfolding run endRun endBody
 after-loop rules w l ls [] r h = refl
 after-loop rules w l ls (t ∷ ts) r h =
-    run-alike rules (body w [] l ls 0) (within w) t ts r (λ o. after-loop-step rules w l ls (sortOf (t .kind)) r (λ e. h (record { no-global = o; sort = e })))
+    run-alike rules (body w [] l ls 0) (within w) t ts r (after-loop-step rules w l ls (sortOf (t .kind)) r h)
 
 pub step-loop : (rules : Rules) (w : Where) (r : Rows)
     → step rules (within w) Sort.loop r ≡ go (header w (next (r .names)) [] 0 0) (openLoop r)
@@ -338,6 +341,9 @@ frameEnd≢value e = let z : _≡_ {A = ℕ} 0 1 = cc in omega arith
 block≢value : Sort.block ≡ Sort.value → ⊥
 block≢value e = let z : _≡_ {A = ℕ} 0 1 = cc in omega arith
 
+global≢value : Sort.global ≡ Sort.value → ⊥
+global≢value e = let z : _≡_ {A = ℕ} 0 1 = cc in omega arith
+
 -- no piece between values begins with one
 entry-no-value : (rules : Rules) (e : Entry) (rest : List Token) → EntryBy rules e → NoValue (entryYield e ++ rest)
 unfolding entryYield loopYield
@@ -400,25 +406,41 @@ members-run rules b (m ∷ ms) rest r h nv =
 pub file-no-value : (rules : Rules) (f : File) → FileBy rules f → NoValue (fileYield f)
 unfolding flatMap blockYield
 file-no-value rules [] h = tt
-file-no-value rules (b ∷ f) h = not-value _ _ (sort-block (b .heading) (h .0 .heading)) block≢value
+file-no-value rules (b ∷ f) h = at (h .0 .heading)
+  where
+    at : IsHeading (b .heading) → OfSort (b .heading .kind) Sort.value → ⊥
+    at (IsHeading.data-block e) = not-value _ _ (sort-block (b .heading) e) block≢value
+    at (IsHeading.global-block e) = not-value _ _ (sort-global (b .heading) e) global≢value
+
+-- the heading of a block, after another and at the start
+heading-step : (rules : Rules) (s : ℕ) (b : Block) (r : Rows) → IsHeading (b .heading)
+    → stepAt rules (within (inBlock s)) (b .heading .kind) r ≡ go (within (inBlock (next (r .sets)))) (putSet (blockKind b) 0 r)
+unfolding step between blockKind isGlobal
+heading-step rules s b r (IsHeading.data-block e) = rw (sort-block (b .heading) e, e)
+heading-step rules s b r (IsHeading.global-block e) = rw (sort-global (b .heading) e, e)
+
+start-step : (rules : Rules) (s : ℕ) (t : Token) (r : Rows) → IsHeading t → stepAt rules start (t .kind) r ≡ stepAt rules (within (inBlock s)) (t .kind) r
+unfolding step startStep between
+start-step rules s t r (IsHeading.data-block e) = rw (sort-block t e)
+start-step rules s t r (IsHeading.global-block e) = rw (sort-global t e)
 
 -- the blocks of a file, after one
 pub blocks-run : (rules : Rules) (s : ℕ) (f : File) (r : Rows) → FileBy rules f
     → run rules (within (inBlock s)) (fileYield f) r ≡ good (fold putBlock f r)
-unfolding flatMap blockYield putBlock step between run endRun endBetween
+unfolding flatMap blockYield putBlock run endRun endBetween
 blocks-run rules s [] r h = refl
 blocks-run rules s (b ∷ f) r h =
-    run-sort rules (within (inBlock s)) (b .heading) (flatMap memberYield (b .members) ++ fileYield f) r Sort.block (sort-block (b .heading) (h .0 .heading))
-    ∙ members-run rules (next (r .sets)) (b .members) (fileYield f) (putSet 1 0 r) (h .0 .members) (file-no-value rules f (h .1))
+    run-onward rules (within (inBlock s)) (b .heading) (flatMap memberYield (b .members) ++ fileYield f) r
+    ∙ ap (onward rules (flatMap memberYield (b .members) ++ fileYield f) r) (heading-step rules s b r (h .0 .heading))
+    ∙ members-run rules (next (r .sets)) (b .members) (fileYield f) (putSet (blockKind b) 0 r) (h .0 .members) (file-no-value rules f (h .1))
     ∙ blocks-run rules (next (r .sets)) f (putBlock b r) (h .1)
 
 -- the blocks of a file, from its start
 pub file-run : (rules : Rules) (f : File) (r : Rows) → FileBy rules f → run rules start (fileYield f) r ≡ good (fold putBlock f r)
-unfolding flatMap blockYield run endRun step startStep between
+unfolding flatMap blockYield run endRun
 file-run rules [] r h = refl
 file-run rules (b ∷ f) r h =
-    run-alike rules start (within (inBlock 0)) (b .heading) (flatMap memberYield (b .members) ++ fileYield f) r
-    (λ _. rw (sort-block (b .heading) (h .0 .heading) .sort))
+    run-alike rules start (within (inBlock 0)) (b .heading) (flatMap memberYield (b .members) ++ fileYield f) r (start-step rules 0 (b .heading) r (h .0 .heading))
     ∙ blocks-run rules 0 (b ∷ f) r h
 
 -- a run over the tokens of a whole tree makes the tree's rows

@@ -11,8 +11,7 @@ use Rattle.star_lex.specs.Rules.{Rules, atLevels}
 use Rattle.star_lex.specs.Tokens.{Token}
 use Rattle.star_lex.proofs.Cases.{cond-cases}
 use Rattle.star_grammar.specs.Tables.{Rows, pass}
-use Rattle.star_grammar.specs.Machine.{Sort, sortOf, Where, State, start, within, named, header, body, go, refuse, headerStep, step, stepAt, walk}
-use Rattle.star_grammar.proofs.Sorts.{step-no-global, goes-no-global, goes-step}
+use Rattle.star_grammar.specs.Machine.{Sort, sortOf, Where, State, start, within, named, header, body, go, refuse, headerStep, step, walk}
 use Rattle.star_grammar.proofs.Alive.{walkOn, walk-on, refuse-go, walk-induction}
 use Rattle.star_grammar.proofs.Walking.{Walks}
 
@@ -21,6 +20,7 @@ module _ (rules : Rules) (more : ℕ) (least : rules .levels ≤ more) where
       → headerStep rules w first before n s k r ≡ go st u → headerStep (atLevels rules more) w first before n s k r ≡ go st u
   unfolding headerStep
   header-limit w first before n s Sort.block r st u e = e
+  header-limit w first before n s Sort.global r st u e = e
   header-limit w first before n s Sort.frame r st u e = e
   header-limit w first before n s Sort.frameEnd r st u e = e
   header-limit w first before n s Sort.loop r st u e =
@@ -41,17 +41,12 @@ module _ (rules : Rules) (more : ℕ) (least : rules .levels ≤ more) where
   step-limit (header w first before n c) s k r u e = header-limit w first before n c k r s u e
   step-limit (body w outer l inner f) s k r u e = e
 
-  at-limit : (st s : State) (kind : ℕ) (r u : Rows) → stepAt rules st kind r ≡ go s u → stepAt (atLevels rules more) st kind r ≡ go s u
-  at-limit st s kind r u e =
-      step-no-global (atLevels rules more) st kind r (goes-no-global rules st s kind r u e)
-      ∙ step-limit st s (sortOf kind) r u (goes-step rules st s kind r u e)
-
   -- a walk goes the same way
   pub walk-limit : (st s : State) (p : List Token) (r u : Rows) → walk rules st p r ≡ go s u → walk (atLevels rules more) st p r ≡ go s u
   unfolding walk
   walk-limit st s p r u e =
       walk-induction rules (λ st′ q v. walk (atLevels rules more) st′ q v ≡ go s u) s u refl
-      (λ st′ s′ t q v v′ g later. walk-on (atLevels rules more) st′ t q v ∙ ap (walkOn (atLevels rules more) q) (at-limit st′ s′ (t .kind) v v′ g) ∙ later) p st r e
+      (λ st′ s′ t q v v′ g later. walk-on (atLevels rules more) st′ t q v ∙ ap (walkOn (atLevels rules more) q) (step-limit st′ s′ (sortOf (t .kind)) v v′ g) ∙ later) p st r e
 
   pub walks-limit : (st : State) (p : List Token) (r : Rows) → Walks rules st p r → Walks (atLevels rules more) st p r
   walks-limit st p r k = (k .0, k .1, walk-limit st (k .0) p r (k .1) (k .2))

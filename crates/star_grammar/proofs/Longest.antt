@@ -1,13 +1,11 @@
 -- The machine does not see how long names and codes may be.
 use mathlib.Core.Path.{_≡_, refl, sym, _∙_, ap}
-use mathlib.Core.Bool.{cond}
 use mathlib.Core.List.{List, [], _∷_}
 use Prim.Native.Nat.{ℕ}
-use lib.Dec.{eqb}
 use Rattle.star_lex.specs.Rules.{Rules, atLongest}
 use Rattle.star_lex.specs.Tokens.{Token}
 use Rattle.star_grammar.specs.Tables.{Rows}
-use Rattle.star_grammar.specs.Machine.{Sort, block, frame, frameEnd, loop, stop, name, value, sortOf, Where, State, start, within, named, header, body, Step, go, refuse, headerStep, step, stepAt, run}
+use Rattle.star_grammar.specs.Machine.{Sort, block, global, frame, frameEnd, loop, stop, name, value, sortOf, Where, State, start, within, named, header, body, Step, go, refuse, headerStep, step, stepAt, run}
 use Rattle.star_grammar.proofs.Sorts.{onward, run-onward}
 
 module _ (rules : Rules) (most : ℕ) where
@@ -15,6 +13,7 @@ module _ (rules : Rules) (most : ℕ) where
       → headerStep (atLongest rules most) w first before n c k r ≡ headerStep rules w first before n c k r
   unfolding headerStep
   header-longest w first before n c block r = refl
+  header-longest w first before n c global r = refl
   header-longest w first before n c frame r = refl
   header-longest w first before n c frameEnd r = refl
   header-longest w first before n c loop r = refl
@@ -35,7 +34,7 @@ module _ (rules : Rules) (most : ℕ) where
   run-longest st [] r = refl
   run-longest st (t ∷ ts) r =
       run-onward (atLongest rules most) st t ts r
-      ∙ ap (onward (atLongest rules most) ts r) (ap (cond (eqb (t .kind) 12) (refuse 12)) (step-longest st (sortOf (t .kind)) r))
+      ∙ ap (onward (atLongest rules most) ts r) (step-longest st (sortOf (t .kind)) r)
       ∙ at (stepAt rules st (t .kind) r) (λ s u. run-longest s ts u)
       ∙ sym (run-onward rules st t ts r)
     where

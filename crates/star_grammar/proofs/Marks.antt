@@ -10,7 +10,6 @@ use Rattle.star_lex.specs.Rules.{Rules}
 use Rattle.star_lex.specs.Tokens.{Token}
 use Rattle.star_grammar.specs.Tables.{Rows}
 use Rattle.star_grammar.specs.Machine.{Sort, sortOf, Where, inBlock, inFrame, Level, State, start, within, named, header, body, Step, go, between, filled, fill, valueAt, begin, headerStep, noValue, noValueAt, bodyStep, startStep, namedStep, step, walk}
-use Rattle.star_grammar.proofs.Sorts.{goes-step}
 use Rattle.star_grammar.proofs.Sane.{Taken, taken-cond, cond-case}
 use Rattle.star_grammar.proofs.Alive.{walk-induction}
 use Rattle.star_grammar.proofs.Refusals.{InPacket}
@@ -18,6 +17,7 @@ use Rattle.star_grammar.proofs.Refusals.{InPacket}
 -- whether a value has come since the last name or `loop_`, after one token more
 abbrev pub mark : Sort → Bool → Bool
 mark Sort.block b = b
+mark Sort.global b = b
 mark Sort.frame b = b
 mark Sort.frameEnd b = b
 mark Sort.loop b = false
@@ -44,6 +44,7 @@ TakenMarked k b x = Taken (λ s. Marked s (mark k b)) x
 between-marked : (w : Where) (k : Sort) (r : Rows) (b : Bool) → TakenMarked k b (between w k r)
 unfolding between
 between-marked (inBlock s) Sort.block r b = tt
+between-marked (inBlock s) Sort.global r b = tt
 between-marked (inBlock s) Sort.frame r b = tt
 between-marked (inBlock s) Sort.frameEnd r b = tt
 between-marked (inBlock s) Sort.loop r b = refl
@@ -51,6 +52,7 @@ between-marked (inBlock s) Sort.stop r b = tt
 between-marked (inBlock s) Sort.name r b = refl
 between-marked (inBlock s) Sort.value r b = tt
 between-marked (inFrame c s) Sort.block r b = tt
+between-marked (inFrame c s) Sort.global r b = tt
 between-marked (inFrame c s) Sort.frame r b = tt
 between-marked (inFrame c s) Sort.frameEnd r b = tt
 between-marked (inFrame c s) Sort.loop r b = refl
@@ -83,6 +85,7 @@ header-marked : (rules : Rules) (w : Where) (first : ℕ) (before : List ℕ) (n
     → TakenMarked k b (headerStep rules w first before n s k r)
 unfolding headerStep
 header-marked rules w first before n s Sort.block r b h = tt
+header-marked rules w first before n s Sort.global r b h = tt
 header-marked rules w first before n s Sort.frame r b h = tt
 header-marked rules w first before n s Sort.frameEnd r b h = tt
 header-marked rules w first before n s Sort.loop r b h =
@@ -97,18 +100,21 @@ body-marked : (w : Where) (outer : List Level) (l : Level) (inner : List ℕ) (f
 unfolding bodyStep noValueAt noValue
 body-marked w outer l inner f Sort.value r b h = value-marked w outer l inner f r
 body-marked w outer l inner (suc f) Sort.block r b h = tt
+body-marked w outer l inner (suc f) Sort.global r b h = tt
 body-marked w outer l inner (suc f) Sort.frame r b h = tt
 body-marked w outer l inner (suc f) Sort.frameEnd r b h = tt
 body-marked w outer l inner (suc f) Sort.loop r b h = tt
 body-marked w outer l inner (suc f) Sort.stop r b h = tt
 body-marked w outer l inner (suc f) Sort.name r b h = tt
 body-marked w [] l inner zero Sort.block r b h = between-marked w Sort.block r b
+body-marked w [] l inner zero Sort.global r b h = between-marked w Sort.global r b
 body-marked w [] l inner zero Sort.frame r b h = between-marked w Sort.frame r b
 body-marked w [] l inner zero Sort.frameEnd r b h = between-marked w Sort.frameEnd r b
 body-marked w [] l inner zero Sort.loop r b h = between-marked w Sort.loop r b
 body-marked w [] l inner zero Sort.stop r b h = between-marked w Sort.stop r b
 body-marked w [] l inner zero Sort.name r b h = between-marked w Sort.name r b
 body-marked w (o ∷ outer) l inner zero Sort.block r b h = tt
+body-marked w (o ∷ outer) l inner zero Sort.global r b h = tt
 body-marked w (o ∷ outer) l inner zero Sort.frame r b h = tt
 body-marked w (o ∷ outer) l inner zero Sort.frameEnd r b h = tt
 body-marked w (o ∷ outer) l inner zero Sort.loop r b h = tt
@@ -118,6 +124,7 @@ body-marked w (o ∷ outer) l inner zero Sort.name r b h = tt
 start-marked : (k : Sort) (r : Rows) (b : Bool) → TakenMarked k b (startStep k r)
 unfolding startStep
 start-marked Sort.block r b = tt
+start-marked Sort.global r b = tt
 start-marked Sort.frame r b = tt
 start-marked Sort.frameEnd r b = tt
 start-marked Sort.loop r b = tt
@@ -128,6 +135,7 @@ start-marked Sort.value r b = tt
 named-marked : (w : Where) (k : Sort) (r : Rows) (b : Bool) → TakenMarked k b (namedStep w k r)
 unfolding namedStep
 named-marked w Sort.block r b = tt
+named-marked w Sort.global r b = tt
 named-marked w Sort.frame r b = tt
 named-marked w Sort.frameEnd r b = tt
 named-marked w Sort.loop r b = tt
@@ -146,7 +154,7 @@ step-marked rules (body w outer l inner f) k r b h = body-marked w outer l inner
 pub walk-marked : (rules : Rules) (st s : State) (p : List Token) (r u : Rows) (b : Bool) → walk rules st p r ≡ go s u → Marked st b → Marked s (marks b p)
 walk-marked rules st s p r u b e h =
     walk-induction rules (λ st′ q v. (c : Bool) → Marked st′ c → Marked s (marks c q)) s u (λ c m. m)
-    (λ st′ s′ t q v v′ g later c m. later (mark (sortOf (t .kind)) c) (rw (goes-step rules st′ s′ (t .kind) v v′ g) at (step-marked rules st′ (sortOf (t .kind)) v c m))) p st r e b h
+    (λ st′ s′ t q v v′ g later c m. later (mark (sortOf (t .kind)) c) (rw g at (step-marked rules st′ (sortOf (t .kind)) v c m))) p st r e b h
 
 pub packet-marked : (st : State) (b : Bool) → InPacket st → Marked st b → b ≡ true
 packet-marked start b h m = absurd h

@@ -10,7 +10,6 @@ use Rattle.star_lex.specs.Rules.{Rules}
 use Rattle.star_lex.specs.Tokens.{Token}
 use Rattle.star_grammar.specs.Tables.{Rows, noRows, pass, openLoop, putSet, putName, putPacket, putValue}
 use Rattle.star_grammar.specs.Machine.{Sort, sortOf, Where, inBlock, inFrame, Level, State, start, within, named, header, body, Step, go, refuse, between, fill, valueAt, begin, headerStep, noValue, noValueAt, bodyStep, startStep, namedStep, step, bad, endBetween, endBody, endRun, walk}
-use Rattle.star_grammar.proofs.Sorts.{goes-step}
 use Rattle.star_grammar.proofs.Sound.{bad-good}
 use Rattle.star_grammar.proofs.Alive.{walk-induction}
 
@@ -26,6 +25,7 @@ passes-cond n false x y f g = g
 between-passes : (w : Where) (k : Sort) (r : Rows) → Passes (r .tokens) (between w k r)
 unfolding between putSet openLoop putName pass
 between-passes (inBlock s) Sort.block r = refl
+between-passes (inBlock s) Sort.global r = refl
 between-passes (inBlock s) Sort.frame r = refl
 between-passes (inBlock s) Sort.frameEnd r = tt
 between-passes (inBlock s) Sort.loop r = refl
@@ -33,6 +33,7 @@ between-passes (inBlock s) Sort.stop r = tt
 between-passes (inBlock s) Sort.name r = refl
 between-passes (inBlock s) Sort.value r = tt
 between-passes (inFrame b s) Sort.block r = tt
+between-passes (inFrame b s) Sort.global r = tt
 between-passes (inFrame b s) Sort.frame r = tt
 between-passes (inFrame b s) Sort.frameEnd r = refl
 between-passes (inFrame b s) Sort.loop r = refl
@@ -54,6 +55,7 @@ header-passes : (rules : Rules) (w : Where) (first : ℕ) (before : List ℕ) (n
     → Passes (r .tokens) (headerStep rules w first before n s k r)
 unfolding headerStep pass putName
 header-passes rules w first before n s Sort.block r = tt
+header-passes rules w first before n s Sort.global r = tt
 header-passes rules w first before n s Sort.frame r = tt
 header-passes rules w first before n s Sort.frameEnd r = tt
 header-passes rules w first before n s Sort.loop r =
@@ -69,6 +71,7 @@ unfolding noValueAt noValue pass
 no-value-passes w outer l inner (suc f) k r = tt
 no-value-passes w [] l inner zero k r = between-passes w k r
 no-value-passes w (o ∷ outer) l inner zero Sort.block r = tt
+no-value-passes w (o ∷ outer) l inner zero Sort.global r = tt
 no-value-passes w (o ∷ outer) l inner zero Sort.frame r = tt
 no-value-passes w (o ∷ outer) l inner zero Sort.frameEnd r = tt
 no-value-passes w (o ∷ outer) l inner zero Sort.loop r = tt
@@ -80,6 +83,7 @@ body-passes : (w : Where) (outer : List Level) (l : Level) (inner : List ℕ) (f
     → Passes (r .tokens) (bodyStep w outer l inner f k r)
 unfolding bodyStep
 body-passes w outer l inner f Sort.block r = no-value-passes w outer l inner f Sort.block r
+body-passes w outer l inner f Sort.global r = no-value-passes w outer l inner f Sort.global r
 body-passes w outer l inner f Sort.frame r = no-value-passes w outer l inner f Sort.frame r
 body-passes w outer l inner f Sort.frameEnd r = no-value-passes w outer l inner f Sort.frameEnd r
 body-passes w outer l inner f Sort.loop r = no-value-passes w outer l inner f Sort.loop r
@@ -90,6 +94,7 @@ body-passes w outer l inner f Sort.value r = value-passes w outer l inner f r
 start-passes : (k : Sort) (r : Rows) → Passes (r .tokens) (startStep k r)
 unfolding startStep putSet
 start-passes Sort.block r = refl
+start-passes Sort.global r = refl
 start-passes Sort.frame r = tt
 start-passes Sort.frameEnd r = tt
 start-passes Sort.loop r = tt
@@ -100,6 +105,7 @@ start-passes Sort.value r = tt
 named-passes : (w : Where) (k : Sort) (r : Rows) → Passes (r .tokens) (namedStep w k r)
 unfolding namedStep putValue
 named-passes w Sort.block r = tt
+named-passes w Sort.global r = tt
 named-passes w Sort.frame r = tt
 named-passes w Sort.frameEnd r = tt
 named-passes w Sort.loop r = tt
@@ -119,7 +125,7 @@ step-passes rules (body w outer l inner f) k r = body-passes w outer l inner f k
 pub walk-passes : (rules : Rules) (st st′ : State) (p : List Token) (r r′ : Rows) → walk rules st p r ≡ go st′ r′ → r′ .tokens ≡ r .tokens + length p
 walk-passes rules st st′ p r r′ e =
     walk-induction rules (λ s q u. r′ .tokens ≡ u .tokens + length q) st′ r′ (omega arith)
-    (λ s s′ t q u u′ g later. let h : u′ .tokens ≡ suc (u .tokens) = rw (goes-step rules s s′ (t .kind) u u′ g) at (step-passes rules s (sortOf (t .kind)) u) in omega arith) p st r e
+    (λ s s′ t q u u′ g later. let h : u′ .tokens ≡ suc (u .tokens) = rw g at (step-passes rules s (sortOf (t .kind)) u) in omega arith) p st r e
 
 pub walk-length : (rules : Rules) (st : State) (p : List Token) (r : Rows) → walk rules start p noRows ≡ go st r → r .tokens ≡ length p
 unfolding noRows

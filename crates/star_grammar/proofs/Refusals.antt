@@ -52,6 +52,7 @@ module _ (rules : Rules) where
       → Refused (Refusal rules st k r) (between w k r)
   unfolding between
   between-refusal st h (inBlock s) Sort.block r e = tt
+  between-refusal st h (inBlock s) Sort.global r e = tt
   between-refusal st h (inBlock s) Sort.frame r e = tt
   between-refusal st h (inBlock s) Sort.frameEnd r e = Refusal.other h e
   between-refusal st h (inBlock s) Sort.loop r e = tt
@@ -59,6 +60,7 @@ module _ (rules : Rules) where
   between-refusal st h (inBlock s) Sort.name r e = tt
   between-refusal st h (inBlock s) Sort.value r e = Refusal.other h e
   between-refusal st h (inFrame b s) Sort.block r e = Refusal.other h e
+  between-refusal st h (inFrame b s) Sort.global r e = Refusal.other h e
   between-refusal st h (inFrame b s) Sort.frame r e = Refusal.other h e
   between-refusal st h (inFrame b s) Sort.frameEnd r e = tt
   between-refusal st h (inFrame b s) Sort.loop r e = tt
@@ -70,6 +72,7 @@ module _ (rules : Rules) where
       → Refused (Refusal rules (header w first before n s) k r) (headerStep rules w first before n s k r)
   unfolding step headerStep
   header-refusal w first before n s Sort.block r = Refusal.other (λ x. x) (λ l. refl)
+  header-refusal w first before n s Sort.global r = Refusal.other (λ x. x) (λ l. refl)
   header-refusal w first before n s Sort.frame r = Refusal.other (λ x. x) (λ l. refl)
   header-refusal w first before n s Sort.frameEnd r = Refusal.other (λ x. x) (λ l. refl)
   header-refusal w first before n s Sort.loop r =
@@ -91,18 +94,21 @@ module _ (rules : Rules) where
   unfolding step bodyStep noValueAt noValue
   body-refusal w outer l inner f Sort.value r = value-refused _ w outer l inner f r
   body-refusal w outer l inner (suc f) Sort.block r = Refusal.packet tt (λ l. refl)
+  body-refusal w outer l inner (suc f) Sort.global r = Refusal.packet tt (λ l. refl)
   body-refusal w outer l inner (suc f) Sort.frame r = Refusal.packet tt (λ l. refl)
   body-refusal w outer l inner (suc f) Sort.frameEnd r = Refusal.packet tt (λ l. refl)
   body-refusal w outer l inner (suc f) Sort.loop r = Refusal.packet tt (λ l. refl)
   body-refusal w outer l inner (suc f) Sort.stop r = Refusal.packet tt (λ l. refl)
   body-refusal w outer l inner (suc f) Sort.name r = Refusal.packet tt (λ l. refl)
   body-refusal w [] l inner zero Sort.block r = between-refusal (body w [] l inner zero) (λ x. x) w Sort.block r (λ l. refl)
+  body-refusal w [] l inner zero Sort.global r = between-refusal (body w [] l inner zero) (λ x. x) w Sort.global r (λ l. refl)
   body-refusal w [] l inner zero Sort.frame r = between-refusal (body w [] l inner zero) (λ x. x) w Sort.frame r (λ l. refl)
   body-refusal w [] l inner zero Sort.frameEnd r = between-refusal (body w [] l inner zero) (λ x. x) w Sort.frameEnd r (λ l. refl)
   body-refusal w [] l inner zero Sort.loop r = between-refusal (body w [] l inner zero) (λ x. x) w Sort.loop r (λ l. refl)
   body-refusal w [] l inner zero Sort.stop r = between-refusal (body w [] l inner zero) (λ x. x) w Sort.stop r (λ l. refl)
   body-refusal w [] l inner zero Sort.name r = between-refusal (body w [] l inner zero) (λ x. x) w Sort.name r (λ l. refl)
   body-refusal w (o ∷ outer) l inner zero Sort.block r = Refusal.packet tt (λ l. refl)
+  body-refusal w (o ∷ outer) l inner zero Sort.global r = Refusal.packet tt (λ l. refl)
   body-refusal w (o ∷ outer) l inner zero Sort.frame r = Refusal.packet tt (λ l. refl)
   body-refusal w (o ∷ outer) l inner zero Sort.frameEnd r = Refusal.packet tt (λ l. refl)
   body-refusal w (o ∷ outer) l inner zero Sort.loop r = Refusal.packet tt (λ l. refl)
@@ -112,6 +118,7 @@ module _ (rules : Rules) where
   start-refusal : (k : Sort) (r : Rows) → Refused (Refusal rules start k r) (startStep k r)
   unfolding step startStep
   start-refusal Sort.block r = tt
+  start-refusal Sort.global r = tt
   start-refusal Sort.frame r = Refusal.other (λ x. x) (λ l. refl)
   start-refusal Sort.frameEnd r = Refusal.other (λ x. x) (λ l. refl)
   start-refusal Sort.loop r = Refusal.other (λ x. x) (λ l. refl)
@@ -122,6 +129,7 @@ module _ (rules : Rules) where
   named-refusal : (w : Where) (k : Sort) (r : Rows) → Refused (Refusal rules (named w) k r) (namedStep w k r)
   unfolding step namedStep
   named-refusal w Sort.block r = Refusal.other (λ x. x) (λ l. refl)
+  named-refusal w Sort.global r = Refusal.other (λ x. x) (λ l. refl)
   named-refusal w Sort.frame r = Refusal.other (λ x. x) (λ l. refl)
   named-refusal w Sort.frameEnd r = Refusal.other (λ x. x) (λ l. refl)
   named-refusal w Sort.loop r = Refusal.other (λ x. x) (λ l. refl)

@@ -11,7 +11,7 @@ use lib.Seq.{drop-drop, drop-append-seam, getD-drop}
 use Rattle.star_text.specs.Names.{key}
 use Rattle.star_lex.specs.Tokens.{Token, Each}
 use Rattle.star_grammar.specs.Tree.{Inner, Packet, innerYield, packetYield, Loop, loopYield, Entry, item, looped, entryYield, Frame, frameYield, Member, own, framed, memberYield, Block, blockYield, File, fileYield, frameEnd, loopStart, stop}
-use Rattle.star_grammar.specs.Tables.{SetRow, NameRow, ValueRow, Rows, noRows, pass, openLoop, putSet, putName, putPacket, putValue, fold, next, putValues, putInner, putPacketTree, putNames, putDeeper, putStops, putLoop, putEntry, putFrame, putMember, putBlock, rowsOf}
+use Rattle.star_grammar.specs.Tables.{SetRow, NameRow, ValueRow, Rows, noRows, pass, openLoop, putSet, putName, putPacket, putValue, fold, next, putValues, putInner, putPacketTree, putNames, putDeeper, putStops, putLoop, putEntry, putFrame, putMember, blockKind, putBlock, rowsOf}
 use Rattle.star_grammar.specs.Reading.{contents, entryNames, frameCodes}
 
 -- what the token of that row is compared by
@@ -52,7 +52,7 @@ fileNames sets (b ∷ f) =
 abbrev pub fileSets : (sets : ℕ) → File → List (ℕ × ℕ × List ℕ)
 fileSets sets [] = []
 fileSets sets (b ∷ f) =
-    ((1, 0, key (b .heading .content)) ∷ framesOf (suc sets) (flatMap frameCodes (b .members)))
+    ((blockKind b, 0, key (b .heading .content)) ∷ framesOf (suc sets) (flatMap frameCodes (b .members)))
     ++ fileSets (suc sets + length (flatMap frameCodes (b .members))) f
 
 -- a row of table 1 with so many tokens
@@ -322,11 +322,11 @@ module _ {ts : List Token} where
 
   puts-block : (b : Block) (r : Rows)
       → Piece ts (blockYield b) (membersNames (next (r .sets)) (next (r .sets)) (b .members))
-      ((1, 0, key (b .heading .content)) ∷ framesOf (next (r .sets)) (flatMap frameCodes (b .members))) r (putBlock b r)
+      ((blockKind b, 0, key (b .heading .content)) ∷ framesOf (next (r .sets)) (flatMap frameCodes (b .members))) r (putBlock b r)
   unfolding putBlock blockYield
   puts-block b r =
-      then-counted (puts-set 1 0 (b .heading) r)
-      (λ c. puts-members (next (r .sets)) (b .members) (next (r .sets)) (putSet 1 0 r) (c ∙ add-one (length (r .sets))))
+      then-counted (puts-set (blockKind b) 0 (b .heading) r)
+      (λ c. puts-members (next (r .sets)) (b .members) (next (r .sets)) (putSet (blockKind b) 0 r) (c ∙ add-one (length (r .sets))))
 
   puts-blocks : (f : File) (sets : ℕ) (r : Rows) → length (r .sets) ≡ sets
       → Piece ts (fileYield f) (fileNames sets f) (fileSets sets f) r (fold putBlock f r)

@@ -12,7 +12,6 @@ use Rattle.star_grammar.specs.Tables.{Rows, pass}
 use Rattle.star_grammar.specs.Machine.{Sort, sortOf, Where, inBlock, inFrame, Level, State, start, within, named, header, body, Step, go, refuse, between, filled, fill, valueAt, begin, headerStep, noValue, noValueAt, bodyStep, startStep, namedStep, step, stepAt}
 use Rattle.star_grammar.proofs.Rest.{SaneHeader, SaneBody, Sane}
 use Rattle.star_grammar.proofs.Counts.{Counts}
-use Rattle.star_grammar.proofs.Sorts.{goes-step}
 
 -- a property of the state that a step leads to, if it is taken
 abbrev pub Taken : (State → Type 0) → Step → Type 0
@@ -80,6 +79,7 @@ module _ (rules : Rules) (least : 1 ≤ rules .levels) where
       → Taken (Sane rules) (headerStep rules w first before n s k r)
   unfolding headerStep
   header-sane w first before n s Sort.block r h = tt
+  header-sane w first before n s Sort.global r h = tt
   header-sane w first before n s Sort.frame r h = tt
   header-sane w first before n s Sort.frameEnd r h = tt
   header-sane w first before n s Sort.loop r h =
@@ -118,6 +118,7 @@ module _ (rules : Rules) (least : 1 ≤ rules .levels) where
   between-sane : (w : Where) (k : Sort) (r : Rows) → Taken (Sane rules) (between w k r)
   unfolding between
   between-sane (inBlock s) Sort.block r = tt
+  between-sane (inBlock s) Sort.global r = tt
   between-sane (inBlock s) Sort.frame r = tt
   between-sane (inBlock s) Sort.frameEnd r = tt
   between-sane (inBlock s) Sort.loop r = record { some-names = tt; levels = least; stops-fit = omega arith; stops-allowed = λ x. absurd (omega (arith, x)); stopped = omega arith }
@@ -125,6 +126,7 @@ module _ (rules : Rules) (least : 1 ≤ rules .levels) where
   between-sane (inBlock s) Sort.name r = tt
   between-sane (inBlock s) Sort.value r = tt
   between-sane (inFrame b s) Sort.block r = tt
+  between-sane (inFrame b s) Sort.global r = tt
   between-sane (inFrame b s) Sort.frame r = tt
   between-sane (inFrame b s) Sort.frameEnd r = tt
   between-sane (inFrame b s) Sort.loop r = record { some-names = tt; levels = least; stops-fit = omega arith; stops-allowed = λ x. absurd (omega (arith, x)); stopped = omega arith }
@@ -138,6 +140,7 @@ module _ (rules : Rules) (least : 1 ≤ rules .levels) where
   no-value-sane w outer l inner (suc f) k r h = tt
   no-value-sane w [] l inner zero k r h = between-sane w k r
   no-value-sane w (o ∷ outer) l inner zero Sort.block r h = tt
+  no-value-sane w (o ∷ outer) l inner zero Sort.global r h = tt
   no-value-sane w (o ∷ outer) l inner zero Sort.frame r h = tt
   no-value-sane w (o ∷ outer) l inner zero Sort.frameEnd r h = tt
   no-value-sane w (o ∷ outer) l inner zero Sort.loop r h = tt
@@ -154,6 +157,7 @@ module _ (rules : Rules) (least : 1 ≤ rules .levels) where
       → SaneBody rules outer (l .names) inner f → Taken (Sane rules) (bodyStep w outer l inner f k r)
   unfolding bodyStep
   body-sane w outer l inner f Sort.block r h = no-value-sane w outer l inner f Sort.block r h
+  body-sane w outer l inner f Sort.global r h = no-value-sane w outer l inner f Sort.global r h
   body-sane w outer l inner f Sort.frame r h = no-value-sane w outer l inner f Sort.frame r h
   body-sane w outer l inner f Sort.frameEnd r h = no-value-sane w outer l inner f Sort.frameEnd r h
   body-sane w outer l inner f Sort.loop r h = no-value-sane w outer l inner f Sort.loop r h
@@ -164,6 +168,7 @@ module _ (rules : Rules) (least : 1 ≤ rules .levels) where
   start-sane : (k : Sort) (r : Rows) → Taken (Sane rules) (startStep k r)
   unfolding startStep
   start-sane Sort.block r = tt
+  start-sane Sort.global r = tt
   start-sane Sort.frame r = tt
   start-sane Sort.frameEnd r = tt
   start-sane Sort.loop r = tt
@@ -174,6 +179,7 @@ module _ (rules : Rules) (least : 1 ≤ rules .levels) where
   named-sane : (w : Where) (k : Sort) (r : Rows) → Taken (Sane rules) (namedStep w k r)
   unfolding namedStep
   named-sane w Sort.block r = tt
+  named-sane w Sort.global r = tt
   named-sane w Sort.frame r = tt
   named-sane w Sort.frameEnd r = tt
   named-sane w Sort.loop r = tt
@@ -191,4 +197,4 @@ module _ (rules : Rules) (least : 1 ≤ rules .levels) where
 
   -- a step that is taken leads to a sane state
   pub sane-kept : (st s : State) (kind : ℕ) (r r′ : Rows) → Sane rules st → stepAt rules st kind r ≡ go s r′ → Sane rules s
-  sane-kept st s kind r r′ h e = rw (goes-step rules st s kind r r′ e) at (step-sane st (sortOf kind) r h)
+  sane-kept st s kind r r′ h e = rw e at (step-sane st (sortOf kind) r h)

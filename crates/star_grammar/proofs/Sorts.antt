@@ -1,4 +1,4 @@
--- The sort of a token from its kind, and one step of a run: `global_` is refused, and each test of `sortOf` computes at another known kind.
+-- The sort of a token from its kind, and one step of a run: each test of `sortOf` computes at another known kind.
 use mathlib.Core.Path.{_≡_, refl, sym, ap, _∙_}
 use mathlib.Core.Bool.{Bool, true, false, cond}
 use mathlib.Core.List.{List, _∷_}
@@ -8,57 +8,59 @@ use lib.Dec.{eqb}
 use borrow.Author.Tests.{ne-eqb, eqb-true, eqb-false}
 use Rattle.star_lex.specs.Rules.{Rules}
 use Rattle.star_lex.specs.Tokens.{Token}
-use Rattle.star_lex.proofs.Cases.{impossible}
 use Rattle.star_grammar.specs.Tree.{IsValue, IsName, frameEnd, loopStart, stop}
 use Rattle.star_grammar.specs.Tables.{Rows}
 use Rattle.star_grammar.specs.Machine.{Sort, sortOf, State, Step, go, refuse, step, stepAt, Run, bad, run}
 
--- a kind of this sort, and not `global_`
-pub record OfSort (kind : ℕ) (k : Sort) : Type 0 where
-  pub no-global : kind ≡ 12 → ⊥
-  pub sort : sortOf kind ≡ k
+-- a kind of this sort
+abbrev pub OfSort : (kind : ℕ) → Sort → Type 0
+OfSort kind k = sortOf kind ≡ k
 
 pub sort-block : (t : Token) → t .kind ≡ 1 → OfSort (t .kind) Sort.block
 unfolding sortOf
-sort-block t e = record { no-global = λ q. omega arith; sort = ap sortOf e }
+sort-block t e = ap sortOf e
+
+pub sort-global : (t : Token) → t .kind ≡ 12 → OfSort (t .kind) Sort.global
+unfolding sortOf
+sort-global t e = ap sortOf e
 
 pub sort-frame : (t : Token) → t .kind ≡ 2 → OfSort (t .kind) Sort.frame
 unfolding sortOf
-sort-frame t e = record { no-global = λ q. omega arith; sort = ap sortOf e }
+sort-frame t e = ap sortOf e
 
 pub sort-name : (t : Token) → IsName t → OfSort (t .kind) Sort.name
 unfolding sortOf
-sort-name t h = record { no-global = λ q. omega (arith, h .kind6); sort = ap sortOf (h .kind6) }
+sort-name t h = ap sortOf (h .kind6)
 
 pub sort-value : (t : Token) → IsValue t → OfSort (t .kind) Sort.value
 unfolding sortOf
-sort-value t h = record {
-  no-global = λ q. omega (arith, h .high);
-  sort = rw (
-    ne-eqb (t .kind) 1 (omega arith),
-    ne-eqb (t .kind) 2 (omega arith),
-    ne-eqb (t .kind) 3 (omega arith),
-    ne-eqb (t .kind) 4 (omega arith),
-    ne-eqb (t .kind) 5 (omega arith),
-    ne-eqb (t .kind) 6 (omega arith),
-  );
-}
+sort-value t h =
+    rw (
+      ne-eqb (t .kind) 1 (omega arith),
+      ne-eqb (t .kind) 2 (omega arith),
+      ne-eqb (t .kind) 3 (omega arith),
+      ne-eqb (t .kind) 4 (omega arith),
+      ne-eqb (t .kind) 5 (omega arith),
+      ne-eqb (t .kind) 6 (omega arith),
+      ne-eqb (t .kind) 12 (omega (arith, h .high)),
+    )
 
 pub sort-frame-end : OfSort (frameEnd .kind) Sort.frameEnd
 unfolding sortOf frameEnd
-sort-frame-end = record { no-global = λ q. omega arith; sort = refl }
+sort-frame-end = refl
 
 pub sort-loop : OfSort (loopStart .kind) Sort.loop
 unfolding sortOf loopStart
-sort-loop = record { no-global = λ q. omega arith; sort = refl }
+sort-loop = refl
 
 pub sort-stop : OfSort (stop .kind) Sort.stop
 unfolding sortOf stop
-sort-stop = record { no-global = λ q. omega arith; sort = refl }
+sort-stop = refl
 
 -- the kinds of a sort
 abbrev pub KindOf : ℕ → Sort → Type 0
 KindOf n Sort.block = n ≡ 1
+KindOf n Sort.global = n ≡ 12
 KindOf n Sort.frame = n ≡ 2
 KindOf n Sort.frameEnd = n ≡ 3
 KindOf n Sort.loop = n ≡ 4
@@ -70,9 +72,9 @@ sort-cond : (P : Sort → Type 0) (b : Bool) (x y : Sort) → (b ≡ true → P 
 sort-cond P true x y f g = f refl
 sort-cond P false x y f g = g refl
 
-pub sort-kind : (n : ℕ) → 1 ≤ n → n ≤ 12 → (n ≡ 12 → ⊥) → KindOf n (sortOf n)
+pub sort-kind : (n : ℕ) → 1 ≤ n → n ≤ 12 → KindOf n (sortOf n)
 unfolding sortOf
-sort-kind n h l o =
+sort-kind n h l =
     sort-cond (KindOf n) (eqb n 1) _ _ (eqb-true n 1) λ e₁.
     let h₁ : 2 ≤ n = omega (arith, eqb-false n 1 e₁) in
     sort-cond (KindOf n) (eqb n 2) _ _ (eqb-true n 2) λ e₂.
@@ -83,34 +85,11 @@ sort-kind n h l o =
     let h₄ : 5 ≤ n = omega (arith, eqb-false n 4 e₄) in
     sort-cond (KindOf n) (eqb n 5) _ _ (eqb-true n 5) λ e₅.
     let h₅ : 6 ≤ n = omega (arith, eqb-false n 5 e₅) in
-    sort-cond (KindOf n) (eqb n 6) _ _ (eqb-true n 6) λ e₆. (omega (arith, eqb-false n 6 e₆), omega arith)
-
--- the step at a kind that is not `global_`
-pub step-no-global : (rules : Rules) (st : State) (kind : ℕ) (r : Rows) → (kind ≡ 12 → ⊥) → stepAt rules st kind r ≡ step rules st (sortOf kind) r
-step-no-global rules st kind r h = rw (ne-eqb kind 12 h)
+    sort-cond (KindOf n) (eqb n 6) _ _ (eqb-true n 6) λ e₆.
+    sort-cond (KindOf n) (eqb n 12) _ _ (eqb-true n 12) λ e₇. (omega (arith, eqb-false n 6 e₆), omega (arith, eqb-false n 12 e₇))
 
 pub step-sort : (rules : Rules) (st : State) (kind : ℕ) (r : Rows) (k : Sort) → OfSort kind k → stepAt rules st kind r ≡ step rules st k r
-step-sort rules st kind r k h = step-no-global rules st kind r (h .no-global) ∙ ap (λ s. step rules st s r) (h .sort)
-
--- a step that goes on is that of a sort
-module _ (rules : Rules) (st s : State) (kind : ℕ) (r u : Rows) (e : stepAt rules st kind r ≡ go s u) where
-  pub goes-no-global : kind ≡ 12 → ⊥
-  goes-no-global q = let z : refuse 12 ≡ go s u = rw q at e in impossible cc
-
-  pub goes-step : step rules st (sortOf kind) r ≡ go s u
-  goes-step = sym (step-no-global rules st kind r goes-no-global) ∙ e
-
--- a step that is refused: 12 at `global_`, and elsewhere as the step of the sort
-pub refused-cases : (P : ℕ → Type 0) (rules : Rules) (st : State) (kind : ℕ) (r : Rows) (n : ℕ) → stepAt rules st kind r ≡ refuse n
-    → (kind ≡ 12 → P 12) → ((kind ≡ 12 → ⊥) → step rules st (sortOf kind) r ≡ refuse n → P n) → P n
-refused-cases P rules st kind r n e f g = at (eqb kind 12) refl
-  where
-    at : (b : Bool) → eqb kind 12 ≡ b → P n
-    at true d =
-        let z : refuse 12 ≡ refuse n = rw d at e in
-        let m : 12 ≡ n = cc in
-        rw m at (f (eqb-true kind 12 d))
-    at false d = g (eqb-false kind 12 d) (rw d at e)
+step-sort rules st kind r k h = ap (λ s. step rules st s r) h
 
 -- what a step leads to
 abbrev pub onward : (rules : Rules) → List Token → Rows → Step → Run
@@ -137,9 +116,5 @@ run-go rules st t ts r k s r′ h e = run-sort rules st t ts r k h ∙ ap (onwar
 
 -- two states with the same step at a sort run alike
 pub run-alike : (rules : Rules) (st st′ : State) (t : Token) (ts : List Token) (r : Rows)
-    → ((t .kind ≡ 12 → ⊥) → step rules st (sortOf (t .kind)) r ≡ step rules st′ (sortOf (t .kind)) r) → run rules st (t ∷ ts) r ≡ run rules st′ (t ∷ ts) r
-run-alike rules st st′ t ts r e = run-onward rules st t ts r ∙ ap (onward rules ts r) (at (eqb (t .kind) 12) refl) ∙ sym (run-onward rules st′ t ts r)
-  where
-    at : (b : Bool) → eqb (t .kind) 12 ≡ b → stepAt rules st (t .kind) r ≡ stepAt rules st′ (t .kind) r
-    at true d = rw d
-    at false d = rw d (e (eqb-false (t .kind) 12 d))
+    → step rules st (sortOf (t .kind)) r ≡ step rules st′ (sortOf (t .kind)) r → run rules st (t ∷ ts) r ≡ run rules st′ (t ∷ ts) r
+run-alike rules st st′ t ts r e = run-onward rules st t ts r ∙ ap (onward rules ts r) e ∙ sym (run-onward rules st′ t ts r)

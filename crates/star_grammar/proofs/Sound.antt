@@ -10,12 +10,12 @@ use lib.ListN.{length, replicate}
 use borrow.Author.Tests.{ltb-true, ltb-false, eqb-true}
 use Rattle.star_lex.specs.Rules.{Rules}
 use Rattle.star_lex.specs.Tokens.{Token, Each}
-use Rattle.star_grammar.specs.Tree.{IsValue, IsName, innerYield, packetYield, InnerWhole, Loop, loopYield, LoopBy, Entry, item, looped, entryYield, EntryBy, frameYield, own, framed, memberYield, blockYield, File, fileYield, FileBy, frameEnd, loopStart, stop}
+use Rattle.star_grammar.specs.Tree.{IsValue, IsName, innerYield, packetYield, InnerWhole, Loop, loopYield, LoopBy, Entry, item, looped, entryYield, EntryBy, frameYield, own, framed, memberYield, blockYield, IsHeading, File, fileYield, FileBy, frameEnd, loopStart, stop}
 use Rattle.star_grammar.specs.Tables.{Rows, noRows, rowsOf}
 use Rattle.star_grammar.specs.Machine.{Sort, sortOf, Where, inBlock, inFrame, Level, State, start, within, named, header, body, Step, go, refuse, between, filled, fill, valueAt, begin, headerStep, noValue, noValueAt, bodyStep, startStep, namedStep, step, stepAt, bad, good, endBetween, endBody, endRun, run}
 use Rattle.star_grammar.proofs.Rest.{Fixed, Members, Entries, InSet, Valued, Stopped, Packets, Filling, Levels, Heading, InBody, Blocks, Rest, SaneHeader, SaneBody, Sane}
 use Rattle.star_grammar.proofs.Counts.{Counts}
-use Rattle.star_grammar.proofs.Sorts.{KindOf, sort-kind, goes-no-global, goes-step, onward, run-onward}
+use Rattle.star_grammar.proofs.Sorts.{KindOf, sort-kind, onward, run-onward}
 use Rattle.star_grammar.proofs.Complete.{complete}
 use Rattle.star_grammar.proofs.Sane.{Taken, taken-map, taken-cond, cond-case, both-left, both-right, reverse-counts, sane-kept}
 
@@ -133,7 +133,7 @@ module _ (rules : Rules) where
   }
 
   -- a block's heading before what it holds and the blocks after it
-  set-block : (t : Token) (ts : List Token) → t .kind ≡ 1 → Members rules ts → Blocks rules (t ∷ ts)
+  set-block : (t : Token) (ts : List Token) → IsHeading t → Members rules ts → Blocks rules (t ∷ ts)
   unfolding flatMap blockYield
   set-block t ts e m = record {
     blocks = record { heading = t; members = m .members } ∷ m .blocks;
@@ -317,7 +317,8 @@ module _ (rules : Rules) (t : Token) (ts : List Token) (fixed : Fixed t) where
   between-back : (w : Where) (k : Sort) (r : Rows) → KindOf (t .kind) k
       → Taken (λ s. Rest rules s ts → InSet rules w (t ∷ ts)) (between w k r)
   unfolding between
-  between-back (inBlock s) Sort.block r e = λ m. set-blocks rules (t ∷ ts) (set-block rules t ts e m)
+  between-back (inBlock s) Sort.block r e = λ m. set-blocks rules (t ∷ ts) (set-block rules t ts (IsHeading.data-block e) m)
+  between-back (inBlock s) Sort.global r e = λ m. set-blocks rules (t ∷ ts) (set-block rules t ts (IsHeading.global-block e) m)
   between-back (inBlock s) Sort.frame r e = set-frame rules t ts e
   between-back (inBlock s) Sort.frameEnd r e = tt
   between-back (inBlock s) Sort.loop r e = λ h. rw (loop-start-is t fixed e) (set-loop rules (inBlock s) ts h)
@@ -325,6 +326,7 @@ module _ (rules : Rules) (t : Token) (ts : List Token) (fixed : Fixed t) where
   between-back (inBlock s) Sort.name r e = set-item rules (inBlock s) t ts e
   between-back (inBlock s) Sort.value r e = tt
   between-back (inFrame b s) Sort.block r e = tt
+  between-back (inFrame b s) Sort.global r e = tt
   between-back (inFrame b s) Sort.frame r e = tt
   between-back (inFrame b s) Sort.frameEnd r e = λ m. rw (frame-end-is t fixed e) (set-end rules ts m)
   between-back (inFrame b s) Sort.loop r e = λ h. rw (loop-start-is t fixed e) (set-loop rules (inFrame b s) ts h)
@@ -334,7 +336,8 @@ module _ (rules : Rules) (t : Token) (ts : List Token) (fixed : Fixed t) where
 
   start-back : (k : Sort) (r : Rows) → KindOf (t .kind) k → Taken (λ s. Rest rules s ts → Blocks rules (t ∷ ts)) (startStep k r)
   unfolding startStep
-  start-back Sort.block r e = set-block rules t ts e
+  start-back Sort.block r e = set-block rules t ts (IsHeading.data-block e)
+  start-back Sort.global r e = set-block rules t ts (IsHeading.global-block e)
   start-back Sort.frame r e = tt
   start-back Sort.frameEnd r e = tt
   start-back Sort.loop r e = tt
@@ -346,6 +349,7 @@ module _ (rules : Rules) (t : Token) (ts : List Token) (fixed : Fixed t) where
       → Taken (λ s. Rest rules s ts → Valued (InSet rules w) (t ∷ ts)) (namedStep w k r)
   unfolding namedStep
   named-back w Sort.block r e = tt
+  named-back w Sort.global r e = tt
   named-back w Sort.frame r e = tt
   named-back w Sort.frameEnd r e = tt
   named-back w Sort.loop r e = tt
@@ -366,6 +370,7 @@ module _ (rules : Rules) (t : Token) (ts : List Token) (fixed : Fixed t) where
       → Taken (λ u. Rest rules u ts → Heading rules w before n s (t ∷ ts)) (headerStep rules w first before n s k r)
   unfolding headerStep
   header-back w first before n s Sort.block r h e = tt
+  header-back w first before n s Sort.global r h e = tt
   header-back w first before n s Sort.frame r h e = tt
   header-back w first before n s Sort.frameEnd r h e = tt
   header-back w first before n s Sort.loop r h e =
@@ -398,6 +403,7 @@ module _ (rules : Rules) (t : Token) (ts : List Token) (fixed : Fixed t) where
       taken-map (λ s. Rest rules s ts → InSet rules w (t ∷ ts)) (λ s. Rest rules s ts → InBody rules w [] l inner 0 (t ∷ ts))
       (λ s g m. no-packet (l .names) inner (InSet rules w) (t ∷ ts) (g m)) (between w k r) (between-back w k r e)
   no-value-back w (o ∷ outer) l inner zero Sort.block r e = tt
+  no-value-back w (o ∷ outer) l inner zero Sort.global r e = tt
   no-value-back w (o ∷ outer) l inner zero Sort.frame r e = tt
   no-value-back w (o ∷ outer) l inner zero Sort.frameEnd r e = tt
   no-value-back w (o ∷ outer) l inner zero Sort.loop r e = tt
@@ -412,6 +418,7 @@ module _ (rules : Rules) (t : Token) (ts : List Token) (fixed : Fixed t) where
       → Taken (λ s. Rest rules s ts → InBody rules w outer l inner f (t ∷ ts)) (bodyStep w outer l inner f k r)
   unfolding bodyStep
   body-back w outer l inner f Sort.block r h e = no-value-back w outer l inner f Sort.block r e
+  body-back w outer l inner f Sort.global r h e = no-value-back w outer l inner f Sort.global r e
   body-back w outer l inner f Sort.frame r h e = no-value-back w outer l inner f Sort.frame r e
   body-back w outer l inner f Sort.frameEnd r h e = no-value-back w outer l inner f Sort.frameEnd r e
   body-back w outer l inner f Sort.loop r h e = no-value-back w outer l inner f Sort.loop r e
@@ -432,8 +439,8 @@ module _ (rules : Rules) (t : Token) (ts : List Token) (fixed : Fixed t) where
   pub step-back : (st s : State) (r r′ : Rows) → Sane rules st → stepAt rules st (t .kind) r ≡ go s r′ → Rest rules s ts
       → Rest rules st (t ∷ ts)
   step-back st s r r′ h e =
-      subst (Taken (λ (u : State). Rest rules u ts → Rest rules st (t ∷ ts))) (goes-step rules st s (t .kind) r r′ e)
-      (step-taken st (sortOf (t .kind)) r h (sort-kind (t .kind) (fixed .least) (fixed .most) (goes-no-global rules st s (t .kind) r r′ e)))
+      subst (Taken (λ (u : State). Rest rules u ts → Rest rules st (t ∷ ts))) e
+      (step-taken st (sortOf (t .kind)) r h (sort-kind (t .kind) (fixed .least) (fixed .most)))
 
 pub bad-good : (n k : ℕ) (r : Rows) → bad n k ≡ good r → ⊥
 bad-good n k r e = let z : _≡_ {A = ℕ} 0 1 = cc in omega arith

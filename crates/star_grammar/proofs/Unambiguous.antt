@@ -7,7 +7,7 @@ use native.Mathlib.Omega.{arith}
 use lib.ListN.{length, replicate}
 use Rattle.star_lex.specs.Rules.{Rules}
 use Rattle.star_lex.specs.Tokens.{Token, Each}
-use Rattle.star_grammar.specs.Tree.{IsValue, IsName, Inner, Packet, innerYield, packetYield, InnerWhole, PacketWhole, Loop, loopYield, LoopBy, Entry, item, looped, entryYield, EntryBy, Frame, frameYield, FrameBy, Member, own, framed, memberYield, MemberBy, Block, blockYield, BlockBy, File, fileYield, FileBy, frameEnd, loopStart, stop}
+use Rattle.star_grammar.specs.Tree.{IsValue, IsName, Inner, Packet, innerYield, packetYield, InnerWhole, PacketWhole, Loop, loopYield, LoopBy, Entry, item, looped, entryYield, EntryBy, Frame, frameYield, FrameBy, Member, own, framed, memberYield, MemberBy, Block, blockYield, IsHeading, BlockBy, File, fileYield, FileBy, frameEnd, loopStart, stop}
 use Rattle.star_grammar.proofs.Counts.{Counts, map-counts}
 
 -- a row that begins with such a token, and one that does not
@@ -367,21 +367,27 @@ members-same : (rules : Rules) (xs ys : List Member) (s t : List Token) → Each
 members-same rules =
     pieces-same memberYield (MemberBy rules) (Kinds 2 6) (NotHead IsValue) (member-begins rules) (member-follows rules) (member-same rules)
 
+-- a heading or `global_` is no value and begins no member of a block
+heading-no-value : (t : Token) → IsHeading t → IsValue t → ⊥
+heading-no-value t (IsHeading.data-block e) v = omega (arith, v .low)
+heading-no-value t (IsHeading.global-block e) v = omega (arith, v .high)
+
+heading-no-member : (t : Token) → IsHeading t → Kinds 2 6 t → ⊥
+heading-no-member t (IsHeading.data-block e) m = omega (arith, m .least)
+heading-no-member t (IsHeading.global-block e) m = omega (arith, m .most)
+
 -- what may follow a block: another, or nothing
 abbrev BlockNext : List Token → Type 0
 BlockNext [] = Unit {0}
-BlockNext (t ∷ ts) = Kinds 1 1 t
+BlockNext (t ∷ ts) = IsHeading t
 
-next-not : (H : Token → Type 0) → ((t : Token) → Kinds 1 1 t → H t → ⊥) → (s : List Token) → BlockNext s → NotHead H s
+next-not : (H : Token → Type 0) → ((t : Token) → IsHeading t → H t → ⊥) → (s : List Token) → BlockNext s → NotHead H s
 next-not H f [] b = tt
 next-not H f (t ∷ s) b = f t b
 
-block-no-member : (t : Token) → Kinds 1 1 t → Kinds 2 6 t → ⊥
-block-no-member t k m = omega (arith, k .most, m .least)
-
-block-begins : (rules : Rules) (b : Block) → BlockBy rules b → Begins (Kinds 1 1) (blockYield b)
+block-begins : (rules : Rules) (b : Block) → BlockBy rules b → Begins IsHeading (blockYield b)
 unfolding blockYield
-block-begins rules b w = record { least = omega (arith, w .heading); most = omega (arith, w .heading) }
+block-begins rules b w = w .heading
 
 block-follows : (rules : Rules) (b : Block) (s : List Token) → BlockBy rules b → BlockNext (blockYield b ++ s)
 unfolding blockYield
@@ -394,12 +400,11 @@ block-same rules a b s t wa wb fs ft e =
     let heading : a .heading ≡ b .heading = cc in
     let all : (a .members ≡ b .members) × (s ≡ t) =
     members-same rules (a .members) (b .members) s t (wa .members) (wb .members)
-    (next-not IsValue (λ x. no-value 1 1 x (omega arith)) s fs) (next-not IsValue (λ x. no-value 1 1 x (omega arith)) t ft)
-    (next-not (Kinds 2 6) block-no-member s fs) (next-not (Kinds 2 6) block-no-member t ft) (cc) in
+    (next-not IsValue heading-no-value s fs) (next-not IsValue heading-no-value t ft) (next-not (Kinds 2 6) heading-no-member s fs) (next-not (Kinds 2 6) heading-no-member t ft) (cc) in
     (λ i. record { heading = heading i; members = all .0 i }, all .1)
 
 -- whole trees with the same tokens are equal
 pub unambiguous : (rules : Rules) (f g : File) → FileBy rules f → FileBy rules g → fileYield f ≡ fileYield g → f ≡ g
 unambiguous rules f g wf wg e =
-    pieces-same blockYield (BlockBy rules) (Kinds 1 1) BlockNext (block-begins rules) (block-follows rules) (block-same rules)
+    pieces-same blockYield (BlockBy rules) IsHeading BlockNext (block-begins rules) (block-follows rules) (block-same rules)
     f g [] [] wf wg tt tt tt tt (append-nil (fileYield f) ∙ e ∙ sym (append-nil (fileYield g))) .0

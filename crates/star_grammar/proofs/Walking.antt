@@ -3,12 +3,12 @@ use mathlib.Core.Path.{_≡_, refl, sym, ap, _∙_}
 use mathlib.Core.List.{List, [], _∷_, _++_}
 use Prim.Native.Nat.{ℕ}
 use Rattle.star_lex.specs.Rules.{Rules}
-use Rattle.star_lex.specs.Tokens.{Token, Each}
+use Rattle.star_lex.specs.Tokens.{Token}
 use Rattle.star_lex.proofs.Cases.{impossible}
 use Rattle.star_grammar.specs.Tables.{Rows}
 use Rattle.star_grammar.specs.Machine.{State, Step, go, refuse, stepAt, bad, good, endRun, run, walk}
-use Rattle.star_grammar.proofs.Sorts.{goes-no-global, onward, run-onward}
-use Rattle.star_grammar.proofs.Alive.{walkOn, walk-on, refuse-go, walk-induction, walk-append}
+use Rattle.star_grammar.proofs.Sorts.{onward, run-onward}
+use Rattle.star_grammar.proofs.Alive.{walkOn, walk-on, refuse-go, walk-append}
 
 -- a walk whose steps are all taken
 abbrev pub Walks : (rules : Rules) → State → List Token → Rows → Type 0
@@ -33,12 +33,6 @@ module _ (rules : Rules) where
       at later (refuse n) e =
           let z : refuse n ≡ go (k .0) (k .1) = ap (walkOn rules (p ++ q)) (sym e) ∙ sym (walk-on rules st t (p ++ q) r) ∙ k .2 in
           impossible cc
-
-  -- a walk passes no `global_`
-  pub walk-no-global : (p : List Token) (st s : State) (r u : Rows) → walk rules st p r ≡ go s u → Each (λ t. t .kind ≡ 12 → ⊥) p
-  walk-no-global p st s r u e =
-      walk-induction rules (λ st′ q v. Each (λ t. t .kind ≡ 12 → ⊥) q) s u tt
-      (λ st′ s′ t q v v′ g later. (goes-no-global rules st′ s′ (t .kind) v v′ g, later)) p st r e
 
   -- a run that accepts
   pub good-walks : (ts : List Token) (st : State) (r v : Rows) → run rules st ts r ≡ good v → Walks rules st ts r

@@ -9,17 +9,16 @@ use Rattle.star_lex.specs.Tokens.{Token}
 use Rattle.star_grammar.specs.Tables.{Rows, pass, openLoop, putSet, putName, putPacket, putValue, next}
 
 pub data Sort : Type 0 where
-  block frame frameEnd loop stop name value : Sort
+  block global frame frameEnd loop stop name value : Sort
 
--- the sort of a kind of token that is not `global_`
 unfoldable pub sortOf : ℕ → Sort
 sortOf kind =
     cond (eqb kind 1) block
     (cond (eqb kind 2) frame
     (cond (eqb kind 3) frameEnd
-    (cond (eqb kind 4) loop (cond (eqb kind 5) stop (cond (eqb kind 6) name value)))))
+    (cond (eqb kind 4) loop (cond (eqb kind 5) stop (cond (eqb kind 6) name (cond (eqb kind 12) global value))))))
 
--- the set that is open: a block, or a frame of a block
+-- the set that is open: a data block or a global block, or a frame of one
 pub data Where : Type 0 where
   inBlock : (set : ℕ) → Where
   inFrame : (block set : ℕ) → Where
@@ -55,6 +54,7 @@ pub data Step : Type 0 where
 -- between the entries of a set
 unfoldable pub between : Where → Sort → Rows → Step
 between (inBlock s) block r = go (within (inBlock (next (r .sets)))) (putSet 1 0 r)
+between (inBlock s) global r = go (within (inBlock (next (r .sets)))) (putSet 3 0 r)
 between (inBlock s) frame r = go (within (inFrame s (next (r .sets)))) (putSet 2 s r)
 between (inBlock s) frameEnd r = refuse 8
 between (inBlock s) loop r = go (header (inBlock s) (next (r .names)) [] 0 0) (openLoop r)
@@ -62,6 +62,7 @@ between (inBlock s) stop r = refuse 8
 between (inBlock s) name r = go (named (inBlock s)) (putName s 0 0 r)
 between (inBlock s) value r = refuse 8
 between (inFrame b s) block r = refuse 8
+between (inFrame b s) global r = refuse 8
 between (inFrame b s) frame r = refuse 8
 between (inFrame b s) frameEnd r = go (within (inBlock b)) (pass r)
 between (inFrame b s) loop r = go (header (inFrame b s) (next (r .names)) [] 0 0) (openLoop r)
@@ -93,6 +94,7 @@ begin w first (m ∷ inner) r = valueAt w [] (record { names = m; first = first;
 
 unfoldable pub headerStep : (rules : Rules) → Where → (first : ℕ) → List ℕ → (names stops : ℕ) → Sort → Rows → Step
 headerStep rules w first before n s block r = refuse 8
+headerStep rules w first before n s global r = refuse 8
 headerStep rules w first before n s frame r = refuse 8
 headerStep rules w first before n s frameEnd r = refuse 8
 headerStep rules w first before n s loop r =
@@ -109,6 +111,7 @@ headerStep rules w first before n s value r = cond (ltb 0 n) (begin w first (rev
 unfoldable pub noValue : Where → List Level → Level → List ℕ → Sort → Rows → Step
 noValue w [] l inner k r = between w k r
 noValue w (o ∷ outer) l inner block r = refuse 10
+noValue w (o ∷ outer) l inner global r = refuse 10
 noValue w (o ∷ outer) l inner frame r = refuse 10
 noValue w (o ∷ outer) l inner frameEnd r = refuse 10
 noValue w (o ∷ outer) l inner loop r = refuse 10
@@ -123,6 +126,7 @@ noValueAt w outer l inner (suc f) k r = refuse 10
 
 unfoldable pub bodyStep : Where → List Level → Level → List ℕ → ℕ → Sort → Rows → Step
 bodyStep w outer l inner f block r = noValueAt w outer l inner f block r
+bodyStep w outer l inner f global r = noValueAt w outer l inner f global r
 bodyStep w outer l inner f frame r = noValueAt w outer l inner f frame r
 bodyStep w outer l inner f frameEnd r = noValueAt w outer l inner f frameEnd r
 bodyStep w outer l inner f loop r = noValueAt w outer l inner f loop r
@@ -132,6 +136,7 @@ bodyStep w outer l inner f value r = valueAt w outer l inner f r
 
 unfoldable pub startStep : Sort → Rows → Step
 startStep block r = go (within (inBlock (next (r .sets)))) (putSet 1 0 r)
+startStep global r = go (within (inBlock (next (r .sets)))) (putSet 3 0 r)
 startStep frame r = refuse 8
 startStep frameEnd r = refuse 8
 startStep loop r = refuse 8
@@ -141,6 +146,7 @@ startStep value r = refuse 8
 
 unfoldable pub namedStep : Where → Sort → Rows → Step
 namedStep w block r = refuse 8
+namedStep w global r = refuse 8
 namedStep w frame r = refuse 8
 namedStep w frameEnd r = refuse 8
 namedStep w loop r = refuse 8
@@ -156,9 +162,9 @@ step rules (named w) k r = namedStep w k r
 step rules (header w first before n s) k r = headerStep rules w first before n s k r
 step rules (body w outer l inner f) k r = bodyStep w outer l inner f k r
 
--- a step at a kind of token: `global_` is refused before the state is asked
+-- a step at a kind of token
 abbrev pub stepAt : (rules : Rules) → State → (kind : ℕ) → Rows → Step
-stepAt rules st kind r = cond (eqb kind 12) (refuse 12) (step rules st (sortOf kind) r)
+stepAt rules st kind r = step rules st (sortOf kind) r
 
 -- what a run gives: refusal and how many tokens stand before the bad one, or the rows
 pub data Run : Type 0 where

@@ -1,11 +1,12 @@
 -- The reading of a row of tokens: specification 5 and 6. Believed; the demands on reading and lookup cite it.
 use mathlib.Core.Path.{_≡_}
+use mathlib.Core.Bool.{cond}
 use mathlib.Core.List.{List, [], _∷_, _++_, map, flatMap, List·Memᴰ}
 use Prim.Native.Nat.{ℕ}
 use Rattle.star_lex.specs.Rules.{Rules, today}
 use Rattle.star_text.specs.Names.{key}
 use Rattle.star_lex.specs.Tokens.{Token, Each}
-use Rattle.star_grammar.specs.Tree.{Entry, item, looped, Member, own, framed, Block, File, fileYield, FileBy}
+use Rattle.star_grammar.specs.Tree.{Entry, item, looped, Member, own, framed, Block, isGlobal, File, fileYield, FileBy}
 
 -- no name or code stands twice in the list
 abbrev pub Distinct : List (List ℕ) → Type 0
@@ -41,10 +42,14 @@ pub record BlockDistinct (b : Block) : Type 0 where
   pub codes : Distinct (flatMap frameCodes (b .members))
   pub frames : Each FrameDistinct (b .members)
 
+-- a global block has no code
+unfoldable pub blockCode : Block → List (List ℕ)
+blockCode b = cond (isGlobal b) [] (key (b .heading .content) ∷ [])
+
 -- block codes are unique within the file
 pub record FileDistinct (f : File) : Type 0 where
   pub blocks : Each BlockDistinct f
-  pub codes : Distinct (map (λ b. key (b .heading .content)) f)
+  pub codes : Distinct (flatMap blockCode f)
 
 -- a reading of a row of tokens: a tree by the rules whose tokens are all of them
 pub record ReadingBy (rules : Rules) (ts : List Token) : Type 0 where

@@ -1,11 +1,12 @@
 -- The rows of tables 2 to 5 of a tree: specification 7. Rows count from 1, so a row's number is one more than the rows before it. Believed; the demands, what reading leaves and the machine cite it.
+use mathlib.Core.Bool.{cond}
 use mathlib.Core.List.{List, [], _∷_, _++_, map}
 use Prim.Native.Nat.{ℕ, zero, suc, _+_}
 use lib.ListN.{length}
 use Rattle.star_lex.specs.Tokens.{Token}
-use Rattle.star_grammar.specs.Tree.{Inner, Packet, Loop, Entry, item, looped, Frame, Member, own, framed, Block, File}
+use Rattle.star_grammar.specs.Tree.{Inner, Packet, Loop, Entry, item, looped, Frame, Member, own, framed, Block, isGlobal, File}
 
--- sets: kind (1 block, 2 frame), heading token, parent set (0 for a block)
+-- sets: kind (1 data block, 2 frame, 3 global block), heading token, parent set (0 for a block)
 pub record SetRow : Type 0 where
   pub kind : ℕ
   pub heading : ℕ
@@ -167,9 +168,12 @@ unfoldable pub putMember : (block : ℕ) → Member → Rows → Rows
 putMember block (own e) r = putEntry block e r
 putMember block (framed f) r = putFrame block f r
 
+unfoldable pub blockKind : Block → ℕ
+blockKind b = cond (isGlobal b) 3 1
+
 -- sets are numbered in the order of their first tokens
 unfoldable pub putBlock : Block → Rows → Rows
-putBlock b r = fold (putMember (next (r .sets))) (b .members) (putSet 1 0 r)
+putBlock b r = fold (putMember (next (r .sets))) (b .members) (putSet (blockKind b) 0 r)
 
 unfoldable pub rowsOf : File → Rows
 rowsOf f = fold putBlock f noRows

@@ -1,15 +1,16 @@
 -- The grammar, specification 4, as trees and the tokens that they yield. No parser stands here. Believed; readings, rows and the demands cite it.
 --
 --   file   ::= block*
---   block  ::= data_CODE ( item | loop | frame )*
+--   block  ::= ( data_CODE | global_ ) ( item | loop | frame )*
 --   frame  ::= save_CODE ( item | loop )* save_
 --   item   ::= NAME value
 --   loop   ::= header packet+          header ::= loop_ NAME+ ( header | stop_* )
 --   packet ::= value+ [ packet* stop_ ]     one value for each name of its level; in brackets, the packets of the deeper level if there is one
 use mathlib.Core.Path.{_≡_}
-use mathlib.Core.Bool.{true}
+use mathlib.Core.Bool.{Bool, true}
 use mathlib.Core.List.{List, [], _∷_, _++_, map, flatMap}
 use Prim.Native.Nat.{ℕ, _≤_, _<_}
+use lib.Dec.{eqb}
 use lib.ListN.{length, replicate}
 use Rattle.star_lex.specs.Rules.{Rules}
 use Rattle.star_lex.specs.Tokens.{Token, Each, saveWord, loopWord, stopWord}
@@ -120,7 +121,7 @@ abbrev pub MemberBy : (rules : Rules) → Member → Type 0
 MemberBy rules (own e) = EntryBy rules e
 MemberBy rules (framed f) = FrameBy rules f
 
--- a block: a heading and any number of items, loops and frames
+-- a block: a heading or `global_`, and any number of items, loops and frames
 pub record Block : Type 0 where
   pub heading : Token
   pub members : List Member
@@ -128,11 +129,19 @@ pub record Block : Type 0 where
 unfoldable pub blockYield : Block → List Token
 blockYield b = b .heading ∷ flatMap memberYield (b .members)
 
+-- what begins a block: the heading of a data block, or `global_`
+pub data IsHeading (t : Token) : Type 0 where
+  data-block : t .kind ≡ 1 → IsHeading t
+  global-block : t .kind ≡ 12 → IsHeading t
+
+unfoldable pub isGlobal : Block → Bool
+isGlobal b = eqb (b .heading .kind) 12
+
 pub record BlockBy (rules : Rules) (b : Block) : Type 0 where
-  pub heading : b .heading .kind ≡ 1
+  pub heading : IsHeading (b .heading)
   pub members : Each (MemberBy rules) (b .members)
 
--- a file: any number of blocks
+-- a file: any number of data blocks and global blocks
 abbrev pub File : Type 0
 File = List Block
 

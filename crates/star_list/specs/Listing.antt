@@ -27,12 +27,12 @@ spaced [] = []
 spaced (p ∷ []) = p
 spaced (p ∷ q ∷ qs) = p ++ (32 ∷ spaced (q ∷ qs))
 
--- the codes of the blocks in file order: the contents of the tokens of kind 1
+-- the codes of the data blocks in file order: the contents of the tokens of kind 1
 unfoldable pub blockCodes : List Token → List (List ℕ)
 blockCodes [] = []
 blockCodes (t ∷ ts) = cond (eqb (t .kind) 1) (t .content ∷ blockCodes ts) (blockCodes ts)
 
--- each block code on a line of its own
+-- each block code on a line of its own; a global block has none
 unfoldable pub codeLines : List Token → List ℕ
 codeLines ts = flatMap line (blockCodes ts)
 

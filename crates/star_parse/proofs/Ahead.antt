@@ -10,10 +10,11 @@ use lib.Seq.{drop-cons, drop-drop}
 use borrow.Author.Tests.{ne-eqb, ltb-true, ltb-false, eqb-true, eqb-false}
 use Rattle.star_lex.specs.Rules.{Rules}
 use Rattle.star_lex.specs.Tokens.{Token}
+use Rattle.star_lex.proofs.Cases.{cond-cases}
 use Rattle.star_grammar.specs.Tables.{Rows}
 use Rattle.star_grammar.specs.Machine.{Sort, sortOf, State, go, step, endRun, run}
 use Rattle.star_parse.specs.Parsed.{kindTokens}
-use Rattle.star_parse.specs.Reader.{sortNumber, numberOf, ahead, sortAt, SortAt, Ahead, numberFor}
+use Rattle.star_parse.specs.Reader.{sortNumber, numberOf, ahead, sortAt, SortAt, Ahead, blockKindOf, Headed}
 use Rattle.star_grammar.proofs.Sorts.{OfSort, onward, run-sort}
 use Rattle.star_parse.proofs.RunKinds.{length-kinds, kind-at}
 
@@ -21,6 +22,7 @@ use Rattle.star_parse.proofs.RunKinds.{length-kinds, kind-at}
 pub number-sort : (k : Sort) → sortOf (sortNumber k) ≡ k
 unfolding sortOf sortNumber
 number-sort Sort.block = refl
+number-sort Sort.global = refl
 number-sort Sort.frame = refl
 number-sort Sort.frameEnd = refl
 number-sort Sort.loop = refl
@@ -28,21 +30,18 @@ number-sort Sort.stop = refl
 number-sort Sort.name = refl
 number-sort Sort.value = refl
 
-pub number-bounds : (k : Sort) → (0 < sortNumber k) × (sortNumber k ≤ 7)
+pub number-some : (k : Sort) → 0 < sortNumber k
 unfolding sortNumber
-number-bounds Sort.block = (omega arith, omega arith)
-number-bounds Sort.frame = (omega arith, omega arith)
-number-bounds Sort.frameEnd = (omega arith, omega arith)
-number-bounds Sort.loop = (omega arith, omega arith)
-number-bounds Sort.stop = (omega arith, omega arith)
-number-bounds Sort.name = (omega arith, omega arith)
-number-bounds Sort.value = (omega arith, omega arith)
+number-some Sort.block = omega arith
+number-some Sort.global = omega arith
+number-some Sort.frame = omega arith
+number-some Sort.frameEnd = omega arith
+number-some Sort.loop = omega arith
+number-some Sort.stop = omega arith
+number-some Sort.name = omega arith
+number-some Sort.value = omega arith
 
 -- the numbers of kinds
-pub number-no-global : (kind : ℕ) → (kind ≡ 12 → ⊥) → numberOf kind ≡ sortNumber (sortOf kind)
-unfolding numberOf
-number-no-global kind h = rw (ne-eqb kind 12 h)
-
 pub sort-low : (kind : ℕ) → (kind ≡ 0 → ⊥) → kind < 7 → kind ≡ numberOf kind
 unfolding sortOf sortNumber numberOf
 sort-low zero n h = absurd (n refl)
@@ -58,43 +57,33 @@ pub sort-high : (kind : ℕ) → 7 ≤ kind → (kind ≡ 12 → ⊥) → 7 ≡ 
 unfolding sortOf sortNumber numberOf
 sort-high kind h n =
     rw (
-      ne-eqb kind 12 n,
       ne-eqb kind 1 (omega arith),
       ne-eqb kind 2 (omega arith),
       ne-eqb kind 3 (omega arith),
       ne-eqb kind 4 (omega arith),
       ne-eqb kind 5 (omega arith),
       ne-eqb kind 6 (omega arith),
+      ne-eqb kind 12 n,
     )
-
-number-some : (kind : ℕ) → 0 < numberOf kind
-unfolding numberOf
-number-some kind = at (eqb kind 12)
-  where
-    at : (b : Bool) → 0 < cond b 12 (sortNumber (sortOf kind))
-    at true = omega arith
-    at false = number-bounds (sortOf kind) .0
 
 -- a kind with the number of a sort is of that sort
 number-of : (kind : ℕ) (k : Sort) → numberOf kind ≡ sortNumber k → OfSort kind k
 unfolding numberOf
-number-of kind k e =
-    let o : (kind ≡ 12 → ⊥) = λ q. omega (arith, ap numberOf q, number-bounds k .1) in
-    record { no-global = o; sort = sym (number-sort (sortOf kind)) ∙ ap sortOf (sym (number-no-global kind o) ∙ e) ∙ number-sort k }
+number-of kind k e = sym (number-sort (sortOf kind)) ∙ ap sortOf e ∙ number-sort k
 
 -- the first token of a row whose next sort is this one
 pub run-ahead : (rules : Rules) (st : State) (ts : List Token) (r : Rows) (k : Sort) → ahead ts ≡ sortNumber k
     → run rules st ts r ≡ onward rules (drop 1 ts) r (step rules st k r)
 unfolding ahead
-run-ahead rules st [] r k e = absurd (omega (arith, number-bounds k .0))
+run-ahead rules st [] r k e = absurd (omega (arith, number-some k))
 run-ahead rules st (t ∷ ts) r k e =
     run-sort rules st t ts r k (number-of (t .kind) k e)
 
 -- the end
 pub run-end : (rules : Rules) (st : State) (ts : List Token) (r : Rows) → ahead ts ≡ 0 → run rules st ts r ≡ endRun st r
-unfolding ahead run
+unfolding ahead numberOf run
 run-end rules st [] r e = refl
-run-end rules st (t ∷ ts) r e = absurd (omega (arith, number-some (t .kind)))
+run-end rules st (t ∷ ts) r e = absurd (omega (arith, number-some (sortOf (t .kind))))
 
 -- the place after the next token
 pub drop-next : (ts : List Token) (at next : ℕ) → next ≡ at + 1 → drop 1 (drop at ts) ≡ drop next ts
@@ -119,10 +108,11 @@ pub sort-end : (count : ℕ) (words : List ℕ) (at : ℕ) → count ≤ at → 
 sort-end count words at h = record { is = sym (sort-past count words at h); token = λ z. absurd (omega arith) }
 
 pub at-end : (count : ℕ) (words : List ℕ) (at : ℕ) → sortAt count words at ≡ 0 → count ≤ at
+unfolding numberOf
 at-end count words at e = go (ltb at count) refl
   where
     go : (b : Bool) → ltb at count ≡ b → count ≤ at
-    go true q = absurd (omega (arith, e, sort-in count words at (ltb-true at count q), number-some (getD words (at * 3) 0)))
+    go true q = absurd (omega (arith, e, sort-in count words at (ltb-true at count q), number-some (sortOf (getD words (at * 3) 0))))
     go false q = ltb-false at count q
 
 -- what a test of the sort says
@@ -137,18 +127,22 @@ further-on count words from to k h f e = go (eqb from to) refl
     go true q = absurd (f (ap (sortAt count words) (eqb-true from to q) ∙ e))
     go false q = let n : (from ≡ to → ⊥) = eqb-false from to q in omega arith
 
-pub refusal-some : (number sort : ℕ) → 0 < number → 0 < numberFor number sort
-unfolding numberFor
-refusal-some number sort h = go (eqb sort 12)
-  where
-    go : (b : Bool) → 0 < cond b 12 number
-    go true = omega arith
-    go false = h
+-- what begins a block stands at a place
+pub headed-token : {count : ℕ} {words : List ℕ} {at kind : ℕ} → Headed count words at kind → at < count
+headed-token (Headed.data-block a) = a .token
+headed-token (Headed.global-block a) = a .token
 
-pub refusal-global : (number : ℕ) → numberFor number 12 ≡ 12
-unfolding numberFor
-refusal-global number = refl
+pub headed : (count : ℕ) (words : List ℕ) (at sort kind : ℕ) → SortAt count words at sort → kind ≡ blockKindOf sort → (kind ≡ 0 → ⊥)
+    → Headed count words at kind
+unfolding blockKindOf
+headed count words at sort kind s e n =
+    cond-cases (eqb sort 1) 1 (cond (eqb sort 12) 3 0) kind (sym e)
+    (λ d q. rw (← q) (Headed.data-block (ahead-is count words at sort 1 s (eqb-true sort 1 d) (omega arith))))
+    (λ _ f. cond-cases (eqb sort 12) 3 0 kind f
+    (λ d q. rw (← q) (Headed.global-block (ahead-is count words at sort 12 s (eqb-true sort 12 d) (omega arith))))
+    (λ _ q. absurd (n (sym q))))
 
-pub refusal-other : (number sort : ℕ) → (sort ≡ 12 → ⊥) → numberFor number sort ≡ number
-unfolding numberFor
-refusal-other number sort h = rw (ne-eqb sort 12 h)
+-- a sort that begins no block
+pub headless : (sort : ℕ) → blockKindOf sort ≡ 0 → (sort ≡ 1 → ⊥) × (sort ≡ 12 → ⊥)
+unfolding blockKindOf
+headless sort e = (λ q. omega (arith, sym e ∙ ap blockKindOf q), λ q. omega (arith, sym e ∙ ap blockKindOf q))

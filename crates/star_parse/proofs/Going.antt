@@ -8,26 +8,27 @@ use lib.ListN.{length, drop}
 use borrow.Author.Tests.{lt-ltb, le-ltb}
 use Rattle.star_lex.specs.Rules.{today}
 use Rattle.star_lex.specs.Tokens.{Token}
-use Rattle.star_grammar.specs.Tables.{Rows, pass, openLoop, putSet, putName, putPacket, putValue}
+use Rattle.star_grammar.specs.Tables.{Rows, next, pass, openLoop, putSet, putName, putPacket, putValue}
 use Rattle.star_grammar.specs.Machine.{Sort, sortOf, Where, inBlock, inFrame, setOf, Level, parentOf, State, start, within, named, header, body, go, between, filled, fill, valueAt, headerStep, noValue, noValueAt, bodyStep, startStep, namedStep, step, Run, good, endBetween, endRun, run}
-use Rattle.star_parse.specs.Parsed.{FourTables, fourTables}
-use Rattle.star_parse.specs.Reader.{sortNumber, numberOf, ahead, Moved, Misplaced, RowPut, Matches, At, Comes, Whole, partly}
+use Rattle.star_parse.specs.Parsed.{kindTokens, FourTables, fourTables}
+use Rattle.star_parse.specs.Reader.{sortNumber, numberOf, ahead, Headed, Moved, Misplaced, RowPut, Matches, At, Comes, Whole, partly}
 use Rattle.star_parse.specs.declared.progress.Progress.{Progress}
 use Rattle.star_grammar.proofs.Sorts.{onward, run-alike}
-use Rattle.star_parse.proofs.Ahead.{number-no-global, run-ahead, run-end, drop-next, refusal-some}
+use Rattle.star_parse.proofs.Ahead.{run-ahead, run-end, drop-next}
 use Rattle.star_parse.proofs.Counted.{matches-pass, matches-open, matches-set, matches-name, matches-packet, matches-value}
 use Rattle.star_parse.proofs.Refusing.{Refuses, partial-refuses}
 use Rattle.star_grammar.proofs.Complete.{level, any-packet, NoValue, after-loop, step-begin, step-loop, step-item, step-deeper}
 
 no-value : (ts : List Token) → (ahead ts ≡ 7 → ⊥) → NoValue ts
-unfolding ahead sortNumber
+unfolding ahead numberOf sortNumber
 no-value [] h = tt
-no-value (t ∷ ts) h = λ v. h (number-no-global (t .kind) (v .no-global) ∙ ap sortNumber (v .sort))
+no-value (t ∷ ts) h = λ v. h (ap sortNumber v)
 
 closed-step : (b : ℕ) (k : Sort) (r : Rows) → (sortNumber k ≡ 2 → ⊥) → (sortNumber k ≡ 4 → ⊥) → (sortNumber k ≡ 6 → ⊥)
     → step today start k r ≡ step today (within (inBlock b)) k r
 unfolding step startStep between sortNumber
 closed-step b Sort.block r f l n = refl
+closed-step b Sort.global r f l n = refl
 closed-step b Sort.frame r f l n = absurd (f refl)
 closed-step b Sort.frameEnd r f l n = refl
 closed-step b Sort.loop r f l n = absurd (l refl)
@@ -37,12 +38,10 @@ closed-step b Sort.value r f l n = refl
 
 block-closed : (b : ℕ) (ts : List Token) (r : Rows) → (ahead ts ≡ 2 → ⊥) → (ahead ts ≡ 4 → ⊥) → (ahead ts ≡ 6 → ⊥)
     → run today start ts r ≡ run today (within (inBlock b)) ts r
-unfolding ahead run endRun endBetween
+unfolding ahead numberOf run endRun endBetween
 block-closed b [] r f l n = refl
 block-closed b (t ∷ ts) r f l n =
-    run-alike today start (within (inBlock b)) t ts r
-    (λ o. let e : numberOf (t .kind) ≡ sortNumber (sortOf (t .kind)) = number-no-global (t .kind) o in
-    closed-step b (sortOf (t .kind)) r (λ q. f (e ∙ q)) (λ q. l (e ∙ q)) (λ q. n (e ∙ q)))
+    run-alike today start (within (inBlock b)) t ts r (closed-step b (sortOf (t .kind)) r f l n)
 
 module _ (tokens : List Token) (before : FourTables) (outcome : Run) where
   -- over the next token
@@ -78,23 +77,22 @@ module _ (tokens : List Token) (before : FourTables) (outcome : Run) where
   onto f k = record { goes = λ e. f (k .goes e); ends = k .ends }
 
   -- refused at the next token
-  pub refused : {from to : State} {p r : Progress} {t u : FourTables} (number sort : ℕ) → 0 < number → At tokens before outcome from p t
-      → sort ≡ ahead (drop (p .at) tokens) → Refuses from number (ahead (drop (p .at) tokens)) (drop (p .at) tokens)
-      → Misplaced p number sort r → Comes tokens before outcome to r u
-  refused {p = p} {r = r} number sort some a e f q = record {
-    goes = λ z. absurd (omega (arith, q .refusal, refusal-some number sort some));
-    ends = λ _. sym (a .left) ∙ f (a .rows) ∙ rw (q .refusal, q .at, e, a .matches .at);
+  pub refused : {from to : State} {p r : Progress} {t u : FourTables} (number : ℕ) → 0 < number → At tokens before outcome from p t
+      → Refuses from number (drop (p .at) tokens) → Misplaced p number r → Comes tokens before outcome to r u
+  refused {p = p} {r = r} number some a f q = record {
+    goes = λ z. absurd (omega (arith, q .refusal));
+    ends = λ _. sym (a .left) ∙ f (a .rows) ∙ rw (q .refusal, q .at, a .matches .at);
   }
 
-  -- the headings of blocks and frames, and `save_`
-  pub over-block : {p r : Progress} {t : FourTables} {sets : List ℕ} → At tokens before outcome start p t → ahead (drop (p .at) tokens) ≡ 1
-      → RowPut (1 ∷ (p .at + 1) ∷ 0 ∷ []) (p .sets) (t .sets) sets (Moved p 1 0 1 0 0 0 r)
+  -- what begins blocks and frames, and `save_`
+  over-heading : (k : Sort) (kind : ℕ) → ((rows : Rows) → step today start k rows ≡ go (within (inBlock (next (rows .sets)))) (putSet kind 0 rows))
+      → {p r : Progress} {t : FourTables} {sets : List ℕ} → At tokens before outcome start p t → ahead (drop (p .at) tokens) ≡ sortNumber k
+      → RowPut (kind ∷ (p .at + 1) ∷ 0 ∷ []) (p .sets) (t .sets) sets (Moved p 1 0 1 0 0 0 r)
       → At tokens before outcome (within (inBlock (r .sets))) r (fourTables sets (t .names) (t .packets) (t .values))
-  unfolding step startStep sortNumber
-  over-block {p} {r} {t} a e q =
-      step-on Sort.block (putSet 1 0) a e (q .counted .at)
-      (λ rows m. ap (λ n. go (within (inBlock n)) (putSet 1 0 rows)) (omega (arith, m .sets, q .counted .sets)))
-      (λ rows m. matches-set before rows p r t m 1 0 _ q)
+  over-heading k kind s {p} {r} {t} a e q =
+      step-on k (putSet kind 0) a e (q .counted .at)
+      (λ rows m. s rows ∙ ap (λ n. go (within (inBlock n)) (putSet kind 0 rows)) (omega (arith, m .sets, q .counted .sets)))
+      (λ rows m. matches-set before rows p r t m kind 0 _ q)
 
   pub over-frame : {b : ℕ} {p r : Progress} {t : FourTables} {sets : List ℕ} → At tokens before outcome (within (inBlock b)) p t
       → ahead (drop (p .at) tokens) ≡ 2 → RowPut (2 ∷ (p .at + 1) ∷ b ∷ []) (p .sets) (t .sets) sets (Moved p 1 0 1 0 0 0 r)
@@ -207,13 +205,12 @@ module _ (tokens : List Token) (before : FourTables) (outcome : Run) where
     full f a h = rw (le-ltb f (l .names) h) at a
 
     -- no value where the packet is not full
-    pub not-full : (f : ℕ) {p r : Progress} {t u : FourTables} {to : State} (sort : ℕ) → At tokens before outcome (partly w outer l inner f) p t
-        → 0 < f → f < l .names → sort ≡ ahead (drop (p .at) tokens) → (sort ≡ 7 → ⊥) → Misplaced p 10 sort r
-        → Comes tokens before outcome to r u
+    pub not-full : (f : ℕ) {p r : Progress} {t u : FourTables} {to : State} → At tokens before outcome (partly w outer l inner f) p t
+        → 0 < f → f < l .names → (ahead (drop (p .at) tokens) ≡ 7 → ⊥) → Misplaced p 10 r → Comes tokens before outcome to r u
     unfolding partly
-    not-full zero sort a some room e h q = absurd (omega arith)
-    not-full (suc f) {p} sort a some room e h q =
-        refused 10 sort (omega arith) (rw (lt-ltb (suc f) (l .names) room) at a) e (partial-refuses w outer l inner f (drop (p .at) tokens) (λ x. h (e ∙ x))) q
+    not-full zero a some room h q = absurd (omega arith)
+    not-full (suc f) {p} a some room h q =
+        refused 10 (omega arith) (rw (lt-ltb (suc f) (l .names) room) at a) (partial-refuses w outer l inner f (drop (p .at) tokens) h) q
 
   -- `stop_` closes an inner level
   pub over-stop : {w : Where} {o l : Level} {outer : List Level} {inner : List ℕ} {p r : Progress} {t : FourTables}
@@ -246,3 +243,12 @@ module _ (tokens : List Token) (before : FourTables) (outcome : Run) where
   pub whole-refused : (count : ℕ) {st : State} {p : Progress} {t : FourTables} → (p .refusal ≡ 0 → ⊥) → Comes tokens before outcome st p t
       → Whole count outcome before p t
   whole-refused count n k = record { accepts = λ e. absurd (n e); refuses = k .ends }
+
+-- over what begins a block
+pub over-block : (count : ℕ) (tokens : List ℕ) (before : FourTables) (outcome : Run) (kind : ℕ) {p r : Progress} {t : FourTables} {sets : List ℕ}
+    → At (kindTokens count tokens) before outcome start p t → Headed count tokens (p .at) kind
+    → RowPut (kind ∷ (p .at + 1) ∷ 0 ∷ []) (p .sets) (t .sets) sets (Moved p 1 0 1 0 0 0 r)
+    → At (kindTokens count tokens) before outcome (within (inBlock (r .sets))) r (fourTables sets (t .names) (t .packets) (t .values))
+unfolding step startStep sortNumber
+over-block count tokens before outcome _ a (Headed.data-block h) q = over-heading (kindTokens count tokens) before outcome Sort.block 1 (λ rows. refl) a (h .is) q
+over-block count tokens before outcome _ a (Headed.global-block h) q = over-heading (kindTokens count tokens) before outcome Sort.global 3 (λ rows. refl) a (h .is) q

@@ -19,6 +19,7 @@ use Rattle.star_parse.specs.declared.packets.LoopState.{LoopState}
 -- the number of a sort: its kind, 7 for values
 unfoldable pub sortNumber : Sort → ℕ
 sortNumber Sort.block = 1
+sortNumber Sort.global = 12
 sortNumber Sort.frame = 2
 sortNumber Sort.frameEnd = 3
 sortNumber Sort.loop = 4
@@ -26,9 +27,9 @@ sortNumber Sort.stop = 5
 sortNumber Sort.name = 6
 sortNumber Sort.value = 7
 
--- and of the sort of a kind, 12 for `global_`
+-- and of the sort of a kind
 unfoldable pub numberOf : (kind : ℕ) → ℕ
-numberOf kind = cond (eqb kind 12) 12 (sortNumber (sortOf kind))
+numberOf kind = sortNumber (sortOf kind)
 
 -- the number of the sort of the next token, 0 at the end
 unfoldable pub ahead : List Token → ℕ
@@ -54,9 +55,14 @@ pub record NoEntry (count : ℕ) (tokens : List ℕ) (at : ℕ) : Type 0 where
   pub loop : sortAt count tokens at ≡ 4 → ⊥
   pub name : sortAt count tokens at ≡ 6 → ⊥
 
--- `global_` is 12 everywhere
-unfoldable pub numberFor : (number sort : ℕ) → ℕ
-numberFor number sort = cond (eqb sort 12) 12 number
+-- the kind of the set that a sort begins where no block is open: 1 a data block, 3 a global block, 0 none
+unfoldable pub blockKindOf : (sort : ℕ) → ℕ
+blockKindOf sort = cond (eqb sort 1) 1 (cond (eqb sort 12) 3 0)
+
+-- what begins a block of this kind stands at a place
+pub data Headed (count : ℕ) (tokens : List ℕ) (at : ℕ) : (kind : ℕ) → Type 0 where
+  data-block : Ahead count tokens at 1 → Headed count tokens at 1
+  global-block : Ahead count tokens at 12 → Headed count tokens at 3
 
 -- before the first token
 pub record Fresh (r : Progress) : Type 0 where
@@ -79,8 +85,8 @@ pub record Moved (p : Progress) (token newLoop newSet newName newPacket newValue
   pub values : r .values ≡ p .values + newValue
 
 -- the same progress but for a refusal at the next token
-pub record Misplaced (p : Progress) (number sort : ℕ) (r : Progress) : Type 0 where
-  pub refusal : r .refusal ≡ numberFor number sort
+pub record Misplaced (p : Progress) (number : ℕ) (r : Progress) : Type 0 where
+  pub refusal : r .refusal ≡ number
   pub at : r .at ≡ p .at
   pub loops : r .loops ≡ p .loops
   pub sets : r .sets ≡ p .sets

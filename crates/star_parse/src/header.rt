@@ -74,7 +74,7 @@ fn read_packets(
     let p = read_stops(tokens, count, s.levels - 1, p);
     let sort = progress::sort_at(tokens, count, p.at);
     if sort != progress::VALUE {
-        return progress::misplaced(p, progress::OUT_OF_PLACE, sort);
+        return progress::misplaced(p, progress::OUT_OF_PLACE);
     }
     packets::read_level(tokens, count, s, p, packets, values)
 }
@@ -106,7 +106,7 @@ pub(crate) fn read_loop(
         let n = p.names - before;
         let sort = progress::sort_at(tokens, count, p.at);
         if n == 0 {
-            return progress::misplaced(p, progress::OUT_OF_PLACE, sort);
+            return progress::misplaced(p, progress::OUT_OF_PLACE);
         }
         counts[level] = n;
         if sort != progress::LOOP {
@@ -121,7 +121,7 @@ pub(crate) fn read_loop(
             return read_packets(tokens, count, s, p, packets, values);
         }
         if level + 1 == LEVELS {
-            return progress::misplaced(p, progress::TOO_DEEP, sort);
+            return progress::misplaced(p, progress::TOO_DEEP);
         }
         p = progress::passed(p);
         level += 1;

@@ -15,7 +15,7 @@ ghost use Rattle.star_lex.specs.Rules.{today};
 ghost use Rattle.star_grammar.specs.Tables.{noRows};
 ghost use Rattle.star_grammar.specs.Machine.{Where, inBlock, setOf, start, within, run};
 ghost use Rattle.star_parse.specs.Parsed.{kindTokens, fourTables, hasRows, rowsRun, Refused, Answers};
-ghost use Rattle.star_parse.specs.Reader.{Ahead, NoEntry, Ready, Onward, Leads, Whole};
+ghost use Rattle.star_parse.specs.Reader.{Ahead, NoEntry, Headed, Ready, Onward, Leads, Whole};
 
 // The words of a row of table 1.
 const WIDTH: usize = star_rows::TOKEN_WIDTH as usize;
@@ -51,7 +51,7 @@ fn read_item(
     if sort == progress::VALUE {
         progress::put_value(p, p.names, 0, values)
     } else {
-        progress::misplaced(p, progress::OUT_OF_PLACE, sort)
+        progress::misplaced(p, progress::OUT_OF_PLACE)
     }
 }
 
@@ -86,7 +86,7 @@ fn read_entries(
     p
 }
 
-// A save frame of a block: its heading, its entries and `save_`.
+// A save frame of a block, which may be a global block: its heading, its entries and `save_`.
 fn read_frame(
     tokens: &[u32],
     count: usize,
@@ -113,14 +113,15 @@ fn read_frame(
     if sort == progress::FRAME_END {
         progress::passed(p)
     } else {
-        progress::misplaced(p, progress::OUT_OF_PLACE, sort)
+        progress::misplaced(p, progress::OUT_OF_PLACE)
     }
 }
 
-// A data block: its heading, and its entries and frames.
+// A block of this kind, a data block or a global block: its first token, and its entries and frames.
 fn read_block(
     tokens: &[u32],
     count: usize,
+    kind: u32,
     p: Progress,
     sets: &mut [u32],
     names: &mut [u32],
@@ -128,13 +129,13 @@ fn read_block(
     values: &mut [u32],
 ) -> Progress
     requires { ⌜ Ready count (now tokens) p ⌝ }
-    requires { ⌜ Ahead count (now tokens) (p .at) 1 ⌝ }
+    requires { ⌜ Headed count (now tokens) (p .at) kind ⌝ }
     ensures { λ r. ⌜ Onward count (now (tokens .entry)) (p .at + 1) r
         (Leads count (now (tokens .entry))
         start p (fourTables (now (sets .entry)) (now (names .entry)) (now (packets .entry)) (now (values .entry)))
         start r (fourTables (now (sets .exit)) (now (names .exit)) (now (packets .exit)) (now (values .exit)))) ⌝ }
 {
-    let mut p = progress::put_set(p, progress::BLOCK, 0, sets);
+    let mut p = progress::put_set(p, kind, 0, sets);
     let block = p.sets;
     while p.refusal == 0 {
         p = read_entries(tokens, count, block, p, names, packets, values);
@@ -149,7 +150,7 @@ fn read_block(
     p
 }
 
-// The data blocks of a file, from its first token on.
+// The blocks of a file, from its first token on.
 fn read_blocks(
     tokens: &[u32],
     count: usize,
@@ -170,10 +171,11 @@ fn read_blocks(
         if sort == progress::END {
             return p;
         }
-        if sort != progress::BLOCK {
-            return progress::misplaced(p, progress::OUT_OF_PLACE, sort);
+        let kind = progress::block_kind(sort);
+        if kind == 0 {
+            return progress::misplaced(p, progress::OUT_OF_PLACE);
         }
-        p = read_block(tokens, count, p, sets, names, packets, values);
+        p = read_block(tokens, count, kind, p, sets, names, packets, values);
     }
     p
 }

@@ -66,7 +66,7 @@ fn read_values(
     while s.filled < names {
         let sort = progress::sort_at(tokens, count, p.at);
         if sort != progress::VALUE {
-            return progress::misplaced(p, progress::INCOMPLETE, sort);
+            return progress::misplaced(p, progress::INCOMPLETE);
         }
         p = progress::put_value(p, first + s.filled, packet, values);
         s.filled = s.filled + 1;
@@ -112,7 +112,7 @@ fn read_stop(tokens: &[u32], count: usize, p: Progress) -> Progress
     if sort == progress::STOP {
         progress::passed(p)
     } else {
-        progress::misplaced(p, progress::INCOMPLETE, sort)
+        progress::misplaced(p, progress::INCOMPLETE)
     }
 }
 

@@ -4,7 +4,7 @@ ghost use mathlib.Core.List.{[], _∷_};
 ghost use Prim.Native.Nat.{_+_, _*_, _≤_};
 ghost use lib.ListN.{length};
 ghost use Rattle.star_rows.specs.Widths.{tokenWidth};
-ghost use Rattle.star_parse.specs.Reader.{numberOf, SortAt, Fresh, CountRoom, Moved, Misplaced, RowPut};
+ghost use Rattle.star_parse.specs.Reader.{numberOf, SortAt, blockKindOf, Fresh, CountRoom, Moved, Misplaced, RowPut};
 
 // The words of a row of table 1.
 const WIDTH: usize = star_rows::TOKEN_WIDTH as usize;
@@ -28,14 +28,17 @@ pub const VALUE: u32 = 7;
 
 pub const GLOBAL: u32 = 12;
 
-// The numbers of refusal: out of place; no value in a packet that is not full, or no `stop_` in an open inner level; level 9; `global_`.
+// The kinds of the sets that begin a block: a data block, a global block.
+pub const DATA_BLOCK: u32 = 1;
+
+pub const GLOBAL_BLOCK: u32 = 3;
+
+// The numbers of refusal: out of place; no value in a packet that is not full, or no `stop_` in an open inner level; level 9.
 pub const OUT_OF_PLACE: u32 = 8;
 
 pub const INCOMPLETE: u32 = 10;
 
 pub const TOO_DEEP: u32 = 11;
-
-const NO_GLOBAL: u32 = 12;
 
 // The refusal, 0 while there is none; the tokens and loops passed; the rows so far.
 pub struct Progress {
@@ -92,16 +95,25 @@ pub(crate) fn sort_at(tokens: &[u32], count: usize, at: u32) -> u32
     }
 }
 
-// Refused with this number at the next token, of this sort: `global_` has its own number everywhere.
-pub(crate) fn misplaced(p: Progress, number: u32, sort: u32) -> Progress
-    ensures { λ r. ⌜ Misplaced p number sort r ⌝ }
+// The kind of the set that a sort begins where no block is open, 0 where it begins none.
+pub(crate) fn block_kind(sort: u32) -> u32
+    ensures { λ r. ⌜ r ≡ blockKindOf sort ⌝ }
+{
+    if sort == BLOCK {
+        DATA_BLOCK
+    } else if sort == GLOBAL {
+        GLOBAL_BLOCK
+    } else {
+        0
+    }
+}
+
+// Refused with this number at the next token.
+pub(crate) fn misplaced(p: Progress, number: u32) -> Progress
+    ensures { λ r. ⌜ Misplaced p number r ⌝ }
 {
     let mut q = p;
-    if sort == GLOBAL {
-        q.refusal = NO_GLOBAL;
-    } else {
-        q.refusal = number;
-    }
+    q.refusal = number;
     q
 }
 

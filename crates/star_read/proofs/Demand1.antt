@@ -22,12 +22,11 @@ use Rattle.star_read.specs.Demands.{Room, Tokenized, NumberAt, NumberAtE
 use Rattle.star_read.proofs.Usable.{today-usable}
 use Rattle.star_read.proofs.Settled.{reading-settled}
 
-token-number : {rules : Rules} {p : List Token} {t : Token} {n : ℕ} → NumberAt rules p t n → (8 ≤ n) × (n ≤ 12)
-token-number (NumberAt.global k) = (omega arith, omega arith)
-token-number (NumberAt.taken k b) = (omega arith, omega arith)
-token-number (NumberAt.deep k f l b) = (omega arith, omega arith)
-token-number (NumberAt.packet k f v w) = (omega arith, omega arith)
-token-number (NumberAt.other k f o) = (omega arith, omega arith)
+token-number : {rules : Rules} {p : List Token} {t : Token} {n : ℕ} → NumberAt rules p t n → (8 ≤ n) × (n ≤ 11)
+token-number (NumberAt.taken b) = (omega arith, omega arith)
+token-number (NumberAt.deep f l b) = (omega arith, omega arith)
+token-number (NumberAt.packet f v w) = (omega arith, omega arith)
+token-number (NumberAt.other f o) = (omega arith, omega arith)
 
 end-number : {rules : Rules} {p : List Token} {n : ℕ} → NumberAtEnd rules p n → (n ≡ 8) ⊎ (n ≡ 10)
 end-number (NumberAtEnd.packet v w) = inr refl
@@ -45,7 +44,7 @@ token-within file ps p t q s e = each-append (PartOf file) p (t ∷ q) .0 (rw e 
 
 bad-number : (file : List ℕ) (ps : List Placed) (n place : ℕ) → tokensOf file ≡ accepted ps → Bad today file ps n place → Numbered (length file) n place
 bad-number file ps _ _ s (Bad.token n p t q e b k h) =
-    let m : (8 ≤ n) × (n ≤ 12) = token-number h in
+    let m : (8 ≤ n) × (n ≤ 11) = token-number h in
     Numbered.token n (t .at) (m .0) (m .1) (token-within file ps p t q s e)
 bad-number file ps _ _ s (Bad.end n b h) = Numbered.end n (end-number h)
 

@@ -14,14 +14,12 @@ use Rattle.star_lex.proofs.Each.{each-append}
 use Rattle.star_grammar.specs.Machine.{start}
 use Rattle.star_grammar.specs.Tables.{noRows}
 use Rattle.star_grammar.proofs.Walking.{walks-first}
-use Rattle.star_unique.specs.Repeat.{nothing}
-use Rattle.star_unique.proofs.Seen.{takesAll}
 use Rattle.star_read.specs.Read.{ReadOutcome, Sizes, tokensOnly}
 use Rattle.star_read.specs.Demands.{Usable, Begins, Tokenized, NumberAt, Bad}
 use Rattle.star_read.proofs.Begin.{begins-first, walks-shape}
 use Rattle.star_read.proofs.Verdict.{Verdict}
 use Rattle.star_read.proofs.FairFile.{taken-begins, halted-begins, part-formed, part-begins}
-use Rattle.star_read.proofs.Numbers.{taken-no-global, number-end, number-token, numbers-exclude, end-numbers-exclude}
+use Rattle.star_read.proofs.Numbers.{number-end, number-token, numbers-exclude, end-numbers-exclude}
 
 -- a list has one place at most up to which a property of first parts holds
 pub one-place : (B : List Placed → Type 0) → ((p q : List Placed) → B (p ++ q) → B p) → (p : List Placed) (t : Placed) (q p′ : List Placed) (t′ : Placed) (q′ : List Placed)
@@ -54,8 +52,7 @@ module _ (rules : Rules) where
         let h : i ≡ place = cc in
         rw (← m, ← h, l)
         (Bad.token 9 p t q e (part-begins rules usable file words ps f p (t ∷ q) e (walks-first rules (tokensOnly p) (t .token ∷ []) start noRows w) c) (taken-begins rules p t k)
-        (NumberAt.taken (taken-no-global (takesAll nothing (tokensOnly p)) (t .token) k)
-        (walks-shape rules usable (tokensOnly p ++ (t .token ∷ [])) (formed-at p t q e) w)))
+        (NumberAt.taken (walks-shape rules usable (tokensOnly p ++ (t .token ∷ [])) (formed-at p t q e) w)))
     verdict-bad n place o (Verdict.halts j i p t q e l c st r w k) d =
         let m : j ≡ n = cc in
         let h : i ≡ place = cc in

@@ -16,7 +16,6 @@ use Rattle.star_lex.specs.Split.{placed, tokensOf}
 use Rattle.star_grammar.specs.Tables.{Rows}
 use Rattle.star_grammar.specs.Machine.{State, Run, bad, good, run}
 use Rattle.star_parse.specs.declared.Parsed.{Parsed}
-use Rattle.star_grammar.proofs.Sorts.{refused-cases}
 use Rattle.star_grammar.proofs.Walking.{Halts, bad-halts}
 use Rattle.star_grammar.proofs.Refusals.{Refusal, refusal, EndRefusal, end-refusal}
 use Rattle.star_lex.specs.Holds.{Holds}
@@ -58,8 +57,7 @@ pub run-number : (rules : Rules) (st : State) (ts : List Token) (r : Rows) (n i 
 run-number rules st ts r n i e = go (bad-halts rules ts st r n i e)
   where
     go : Halts rules st ts r n i → n ≡ 0 → ⊥
-    go (Halts.token p t q s u a b c d) =
-        refused-cases (λ m. m ≡ 0 → ⊥) rules s (t .kind) u n c (λ k z. omega arith) (λ k e. refusal-number (refusal rules s _ u n e))
+    go (Halts.token p t q s u a b c d) = refusal-number (refusal rules s _ u n c)
     go (Halts.end s u a b) = end-number (end-refusal s u n i b)
 
 -- what the room decides does not look at what is accepted

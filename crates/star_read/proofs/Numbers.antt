@@ -14,21 +14,15 @@ use Rattle.star_lex.proofs.WellFormed.{formed-levels}
 use Rattle.star_lex.proofs.FreshName.{fresh-name-of}
 use Rattle.star_grammar.specs.Tables.{Rows, noRows}
 use Rattle.star_grammar.specs.Machine.{Sort, sortOf, State, start, go, refuse, step, stepAt, bad, endRun, walk}
-use Rattle.star_grammar.proofs.Sorts.{sort-name, step-no-global, step-sort, refused-cases}
+use Rattle.star_grammar.proofs.Sorts.{sort-name, step-sort}
 use Rattle.star_grammar.proofs.Formed.{each-fixed}
-use Rattle.star_grammar.proofs.Walking.{walk-no-global, walk-step, halted}
+use Rattle.star_grammar.proofs.Walking.{walk-step, halted}
 use Rattle.star_grammar.proofs.Limits.{walk-limit, walks-limit}
 use Rattle.star_grammar.proofs.Refusals.{InPacket, Refusal, refusal, packet-name, EndRefusal, end-refusal}
 use Rattle.star_grammar.proofs.Marks.{marks, walk-marked, packet-marked, Outside, outside}
-use Rattle.star_unique.specs.Repeat.{Taken, isTaken}
-use Rattle.star_unique.proofs.Names.{other-taken}
 use Rattle.star_read.specs.Demands.{Usable, BeginsShape, ValueSince, NoName, NumberAt, NumberAtEnd}
 use Rattle.star_read.proofs.Begin.{shape-walks, walks-shape}
 use Rattle.star_read.proofs.Since.{Sorted, each-sorted, since-marks, marks-since}
-
--- a name or code is no `global_`
-pub taken-no-global : (s : Taken) (t : Token) → isTaken s t ≡ true → t .kind ≡ 12 → ⊥
-taken-no-global s t e k = impossible (cc (other-taken s t (λ q. omega arith) (λ q. omega arith) (λ q. omega arith)))
 
 module _ (rules : Rules) (usable : Usable rules) (p : List Token) (formed : Each (FormedBy rules) p) (st : State) (r : Rows) (w : walk rules start p noRows ≡ go st r) where
   no-name : InPacket st → NoName rules p
@@ -36,7 +30,7 @@ module _ (rules : Rules) (usable : Usable rules) (p : List Token) (formed : Each
       halted rules start st p x noRows r 10 w (step-sort rules st (x .kind) r Sort.name (sort-name x n) ∙ packet-name rules st r h) (shape-walks rules (p ++ (x ∷ [])) b)
 
   sorted : Each Sorted p
-  sorted = each-sorted p (each-fixed rules p formed) (walk-no-global rules p start st noRows r w)
+  sorted = each-sorted p (each-fixed rules p formed)
 
   value-since : InPacket st → ValueSince p
   value-since h = marks-since p sorted (packet-marked st (marks false p) h (walk-marked rules start st p noRows r false w refl))
@@ -75,53 +69,40 @@ module _ (rules : Rules) (usable : Usable rules) (p : List Token) (formed : Each
 
   module _ (t : Token) (h : FormedBy rules t) where
     -- a step at a sort that no number of levels takes
-    never : (t .kind ≡ 12 → ⊥) → (m : ℕ) → ((l : ℕ) → step (atLevels rules l) st (sortOf (t .kind)) r ≡ refuse m)
+    never : (m : ℕ) → ((l : ℕ) → step (atLevels rules l) st (sortOf (t .kind)) r ≡ refuse m)
         → (limit : ℕ) → BeginsShape (atLevels rules limit) (p ++ (t ∷ [])) → ⊥
-    never k m f limit b =
+    never m f limit b =
         halted (atLevels rules (limit + rules .levels)) start st p t noRows r m (walk-limit rules (limit + rules .levels) (omega arith) start st p noRows r w)
-        (step-no-global (atLevels rules (limit + rules .levels)) st (t .kind) r k ∙ f (limit + rules .levels))
+        (f (limit + rules .levels))
         (walks-limit (atLevels rules limit) (limit + rules .levels) (omega arith) start (p ++ (t ∷ [])) noRows (shape-walks (atLevels rules limit) (p ++ (t ∷ [])) b))
 
-    number-of : (t .kind ≡ 12 → ⊥) → (n : ℕ) → stepAt rules st (t .kind) r ≡ refuse n → Refusal rules st (sortOf (t .kind)) r n → NumberAt rules p t n
-    number-of k n e (Refusal.deep more l s u g) =
-        NumberAt.deep k (λ b. halted rules start st p t noRows r 11 w e (shape-walks rules (p ++ (t ∷ [])) b)) more
-        (goes-on more l t h s u (step-no-global (atLevels rules more) st (t .kind) r k ∙ g))
-    number-of k n e (Refusal.packet i f) = NumberAt.packet k (never k 10 f) (value-since i) (no-name i)
-    number-of k n e (Refusal.other i f) = NumberAt.other k (never k 8 f) (outside-packet i)
+    number-of : (n : ℕ) → stepAt rules st (t .kind) r ≡ refuse n → Refusal rules st (sortOf (t .kind)) r n → NumberAt rules p t n
+    number-of n e (Refusal.deep more l s u g) =
+        NumberAt.deep (λ b. halted rules start st p t noRows r 11 w e (shape-walks rules (p ++ (t ∷ [])) b)) more (goes-on more l t h s u g)
+    number-of n e (Refusal.packet i f) = NumberAt.packet (never 10 f) (value-since i) (no-name i)
+    number-of n e (Refusal.other i f) = NumberAt.other (never 8 f) (outside-packet i)
 
-    -- `global_` before all others
     pub number-token : (n : ℕ) → stepAt rules st (t .kind) r ≡ refuse n → NumberAt rules p t n
-    number-token n e =
-        refused-cases (NumberAt rules p t) rules st (t .kind) r n e NumberAt.global
-        (λ k q. number-of k n e (refusal rules st (sortOf (t .kind)) r n q))
+    number-token n e = number-of n e (refusal rules st (sortOf (t .kind)) r n e)
 
 -- the numbers exclude one another
 pub numbers-exclude : {rules : Rules} {p : List Token} {t : Token} {m n : ℕ} → NumberAt rules p t m → NumberAt rules p t n → m ≡ n
-numbers-exclude {rules} (NumberAt.global k) (NumberAt.global k′) = refl
-numbers-exclude {rules} (NumberAt.global k) (NumberAt.taken k′ b′) = absurd (k′ k)
-numbers-exclude {rules} (NumberAt.global k) (NumberAt.deep k′ f′ l′ b′) = absurd (k′ k)
-numbers-exclude {rules} (NumberAt.global k) (NumberAt.packet k′ f′ v′ w′) = absurd (k′ k)
-numbers-exclude {rules} (NumberAt.global k) (NumberAt.other k′ f′ o′) = absurd (k′ k)
-numbers-exclude {rules} (NumberAt.taken k b) (NumberAt.global k′) = absurd (k k′)
-numbers-exclude {rules} (NumberAt.taken k b) (NumberAt.taken k′ b′) = refl
-numbers-exclude {rules} (NumberAt.taken k b) (NumberAt.deep k′ f′ l′ b′) = absurd (f′ b)
-numbers-exclude {rules} (NumberAt.taken k b) (NumberAt.packet k′ f′ v′ w′) = absurd (f′ (rules .levels) b)
-numbers-exclude {rules} (NumberAt.taken k b) (NumberAt.other k′ f′ o′) = absurd (f′ (rules .levels) b)
-numbers-exclude {rules} (NumberAt.deep k f l b) (NumberAt.global k′) = absurd (k k′)
-numbers-exclude {rules} (NumberAt.deep k f l b) (NumberAt.taken k′ b′) = absurd (f b′)
-numbers-exclude {rules} (NumberAt.deep k f l b) (NumberAt.deep k′ f′ l′ b′) = refl
-numbers-exclude {rules} (NumberAt.deep k f l b) (NumberAt.packet k′ f′ v′ w′) = absurd (f′ l b)
-numbers-exclude {rules} (NumberAt.deep k f l b) (NumberAt.other k′ f′ o′) = absurd (f′ l b)
-numbers-exclude {rules} (NumberAt.packet k f v w) (NumberAt.global k′) = absurd (k k′)
-numbers-exclude {rules} (NumberAt.packet k f v w) (NumberAt.taken k′ b′) = absurd (f (rules .levels) b′)
-numbers-exclude {rules} (NumberAt.packet k f v w) (NumberAt.deep k′ f′ l′ b′) = absurd (f l′ b′)
-numbers-exclude {rules} (NumberAt.packet k f v w) (NumberAt.packet k′ f′ v′ w′) = refl
-numbers-exclude {rules} (NumberAt.packet k f v w) (NumberAt.other k′ f′ o′) = absurd (o′ v w)
-numbers-exclude {rules} (NumberAt.other k f o) (NumberAt.global k′) = absurd (k k′)
-numbers-exclude {rules} (NumberAt.other k f o) (NumberAt.taken k′ b′) = absurd (f (rules .levels) b′)
-numbers-exclude {rules} (NumberAt.other k f o) (NumberAt.deep k′ f′ l′ b′) = absurd (f l′ b′)
-numbers-exclude {rules} (NumberAt.other k f o) (NumberAt.packet k′ f′ v′ w′) = absurd (o v′ w′)
-numbers-exclude {rules} (NumberAt.other k f o) (NumberAt.other k′ f′ o′) = refl
+numbers-exclude {rules} (NumberAt.taken b) (NumberAt.taken b′) = refl
+numbers-exclude {rules} (NumberAt.taken b) (NumberAt.deep f′ l′ b′) = absurd (f′ b)
+numbers-exclude {rules} (NumberAt.taken b) (NumberAt.packet f′ v′ w′) = absurd (f′ (rules .levels) b)
+numbers-exclude {rules} (NumberAt.taken b) (NumberAt.other f′ o′) = absurd (f′ (rules .levels) b)
+numbers-exclude {rules} (NumberAt.deep f l b) (NumberAt.taken b′) = absurd (f b′)
+numbers-exclude {rules} (NumberAt.deep f l b) (NumberAt.deep f′ l′ b′) = refl
+numbers-exclude {rules} (NumberAt.deep f l b) (NumberAt.packet f′ v′ w′) = absurd (f′ l b)
+numbers-exclude {rules} (NumberAt.deep f l b) (NumberAt.other f′ o′) = absurd (f′ l b)
+numbers-exclude {rules} (NumberAt.packet f v w) (NumberAt.taken b′) = absurd (f (rules .levels) b′)
+numbers-exclude {rules} (NumberAt.packet f v w) (NumberAt.deep f′ l′ b′) = absurd (f l′ b′)
+numbers-exclude {rules} (NumberAt.packet f v w) (NumberAt.packet f′ v′ w′) = refl
+numbers-exclude {rules} (NumberAt.packet f v w) (NumberAt.other f′ o′) = absurd (o′ v w)
+numbers-exclude {rules} (NumberAt.other f o) (NumberAt.taken b′) = absurd (f (rules .levels) b′)
+numbers-exclude {rules} (NumberAt.other f o) (NumberAt.deep f′ l′ b′) = absurd (f l′ b′)
+numbers-exclude {rules} (NumberAt.other f o) (NumberAt.packet f′ v′ w′) = absurd (o v′ w′)
+numbers-exclude {rules} (NumberAt.other f o) (NumberAt.other f′ o′) = refl
 
 pub end-numbers-exclude : {rules : Rules} {p : List Token} {m n : ℕ} → NumberAtEnd rules p m → NumberAtEnd rules p n → m ≡ n
 end-numbers-exclude (NumberAtEnd.packet v w) (NumberAtEnd.packet v′ w′) = refl

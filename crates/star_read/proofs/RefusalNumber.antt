@@ -1,4 +1,4 @@
--- Which of 8 to 12 is given: the number of the first bad token, which is the only one.
+-- Which of 8 to 11 is given: the number of the first bad token, which is the only one.
 use mathlib.Core.Path.{_≡_, sym, _∙_}
 use mathlib.Core.List.{List, [], _∷_, _++_}
 use Prim.Native.Nat.{ℕ}

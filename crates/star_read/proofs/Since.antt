@@ -14,13 +14,13 @@ use Rattle.star_grammar.proofs.Sorts.{KindOf, sort-kind, sort-value}
 use Rattle.star_grammar.proofs.Marks.{mark, marks}
 use Rattle.star_read.specs.Demands.{ValueSince}
 
--- a token of a kind of its sort: one as files have them, and no `global_`
+-- a token of a kind of its sort: one as files have them
 abbrev pub Sorted : Token → Type 0
 Sorted t = KindOf (t .kind) (sortOf (t .kind))
 
-pub each-sorted : (ts : List Token) → Each Fixed ts → Each (λ t. t .kind ≡ 12 → ⊥) ts → Each Sorted ts
-each-sorted [] f o = tt
-each-sorted (t ∷ ts) f o = (sort-kind (t .kind) (f .0 .least) (f .0 .most) (o .0), each-sorted ts (f .1) (o .1))
+pub each-sorted : (ts : List Token) → Each Fixed ts → Each Sorted ts
+each-sorted [] f = tt
+each-sorted (t ∷ ts) f = (sort-kind (t .kind) (f .0 .least) (f .0 .most), each-sorted ts (f .1))
 
 abbrev NotName : Token → Type 0
 NotName t = t .kind ≡ 6 → ⊥
@@ -34,6 +34,7 @@ marks-append b (t ∷ p) q = marks-append (mark (sortOf (t .kind)) b) p q
 
 mark-stays : (n : ℕ) (k : Sort) → KindOf n k → (n ≡ 6 → ⊥) → (n ≡ 4 → ⊥) → mark k true ≡ true
 mark-stays n Sort.block e a b = refl
+mark-stays n Sort.global e a b = refl
 mark-stays n Sort.frame e a b = refl
 mark-stays n Sort.frameEnd e a b = refl
 mark-stays n Sort.loop e a b = absurd (b e)
@@ -49,7 +50,7 @@ marks-stay (t ∷ ts) f a b =
 pub since-marks : (p : List Token) → Each Sorted p → ValueSince p → marks false p ≡ true
 since-marks p f v =
     ap (marks false) (v .is) ∙ marks-append false (v .before) (v .value ∷ v .since)
-    ∙ ap (λ k. marks (mark k (marks false (v .before))) (v .since)) (sort-value (v .value) (v .is-value) .sort)
+    ∙ ap (λ k. marks (mark k (marks false (v .before))) (v .since)) (sort-value (v .value) (v .is-value))
     ∙ marks-stay (v .since) (each-append Sorted (v .before) (v .value ∷ v .since) .0 (rw (v .is) at f) .1 .1) (v .no-name) (v .no-loop)
 
 -- where the mark comes from: from before the tokens, which have no name and no `loop_`, or from a value among them
@@ -71,6 +72,7 @@ since-later t p v = record {
 from-later : (b : Bool) (t : Token) (p : List Token) (k : Sort) → KindOf (t .kind) k → From (mark k b) p → From b (t ∷ p)
 from-later b t p k h (From.since v) = From.since (since-later t p v)
 from-later b t p Sort.block h (From.still e n l) = From.still e ((λ q. omega arith), n) ((λ q. omega arith), l)
+from-later b t p Sort.global h (From.still e n l) = From.still e ((λ q. omega arith), n) ((λ q. omega arith), l)
 from-later b t p Sort.frame h (From.still e n l) = From.still e ((λ q. omega arith), n) ((λ q. omega arith), l)
 from-later b t p Sort.frameEnd h (From.still e n l) = From.still e ((λ q. omega arith), n) ((λ q. omega arith), l)
 from-later b t p Sort.loop h (From.still e n l) = impossible cc

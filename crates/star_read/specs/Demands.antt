@@ -107,21 +107,17 @@ NoName rules p = (x : Token) → IsName x → BeginsShape rules (p ++ (x ∷ [])
 
 -- the number of refusal of a token after a row that begins a file, which it does not with the token
 pub data NumberAt (rules : Rules) (p : List Token) (t : Token) : ℕ → Type 0 where
-  global : t .kind ≡ 12 → NumberAt rules p t 12
-  taken : (t .kind ≡ 12 → ⊥) → BeginsShape rules (p ++ (t ∷ [])) → NumberAt rules p t 9
-  deep : (t .kind ≡ 12 → ⊥) → (BeginsShape rules (p ++ (t ∷ [])) → ⊥) → (limit : ℕ) → BeginsShape (atLevels rules limit) (p ++ (t ∷ []))
-      → NumberAt rules p t 11
-  packet : (t .kind ≡ 12 → ⊥) → ((limit : ℕ) → BeginsShape (atLevels rules limit) (p ++ (t ∷ [])) → ⊥) → ValueSince p → NoName rules p
-      → NumberAt rules p t 10
-  other : (t .kind ≡ 12 → ⊥) → ((limit : ℕ) → BeginsShape (atLevels rules limit) (p ++ (t ∷ [])) → ⊥) → (ValueSince p → NoName rules p → ⊥)
-      → NumberAt rules p t 8
+  taken : BeginsShape rules (p ++ (t ∷ [])) → NumberAt rules p t 9
+  deep : (BeginsShape rules (p ++ (t ∷ [])) → ⊥) → (limit : ℕ) → BeginsShape (atLevels rules limit) (p ++ (t ∷ [])) → NumberAt rules p t 11
+  packet : ((limit : ℕ) → BeginsShape (atLevels rules limit) (p ++ (t ∷ [])) → ⊥) → ValueSince p → NoName rules p → NumberAt rules p t 10
+  other : ((limit : ℕ) → BeginsShape (atLevels rules limit) (p ++ (t ∷ [])) → ⊥) → (ValueSince p → NoName rules p → ⊥) → NumberAt rules p t 8
 
 -- the number of refusal at the end of a row that begins a file
 pub data NumberAtEnd (rules : Rules) (p : List Token) : ℕ → Type 0 where
   packet : ValueSince p → NoName rules p → NumberAtEnd rules p 10
   other : (ValueSince p → NoName rules p → ⊥) → NumberAtEnd rules p 8
 
--- which of 8 to 12 is given
+-- which of 8 to 11 is given
 abbrev pub RefusalNumber : Type 0
 RefusalNumber = (rules : Rules) → Usable rules → (file : List ℕ) (words : Sizes) (ps : List Placed) → Fair rules file words ps
     → (n place : ℕ) → readBy rules file words ≡ refused n place
@@ -129,7 +125,7 @@ RefusalNumber = (rules : Rules) → Usable rules → (file : List ℕ) (words : 
     → (Begins rules (tokensOnly (p ++ (t ∷ []))) → ⊥) → NumberAt rules (tokensOnly p) (t .token) n)
     × (Begins rules (tokensOnly ps) → NumberAtEnd rules (tokensOnly ps) n)
 
--- 8 to 12 exclude one another, at a token and at the end
+-- 8 to 11 exclude one another, at a token and at the end
 abbrev pub NumbersExclude : Type 0
 NumbersExclude = (rules : Rules)
     → ((p : List Token) (t : Token) (m n : ℕ) → NumberAt rules p t m → NumberAt rules p t n → m ≡ n)
@@ -177,7 +173,7 @@ pub data Numbered (size : ℕ) : (number place : ℕ) → Type 0 where
   over-size : Numbered size 1 0
   byte : (n place : ℕ) → 2 ≤ n → n ≤ 6 → place < size → Numbered size n place
   table : (place : ℕ) → 1 ≤ place → place ≤ 5 → Numbered size 7 place
-  token : (n place : ℕ) → 8 ≤ n → n ≤ 12 → place < size → Numbered size n place
+  token : (n place : ℕ) → 8 ≤ n → n ≤ 11 → place < size → Numbered size n place
   end : (n : ℕ) → (n ≡ 8) ⊎ (n ≡ 10) → Numbered size n size
 
 -- a file within the size limit that splits into tokens which have a reading

@@ -10,8 +10,8 @@ use borrow.Author.Tests.{ne-eqb}
 use lib.Dec.{eqb}
 use Rattle.star_text.specs.Names.{key}
 use Rattle.star_lex.specs.Tokens.{Token, Each}
-use Rattle.star_grammar.specs.Tree.{frameEnd, stop, IsValue}
-use Rattle.star_unique.specs.Repeat.{Taken, nothing, takes, takeBlock, takeFrame, endFrame, takeName}
+use Rattle.star_grammar.specs.Tree.{frameEnd, stop}
+use Rattle.star_unique.specs.Repeat.{Taken, nothing, takes, takeBlock, takeGlobal, takeFrame, endFrame, takeName}
 use Rattle.star_unique.proofs.Seen.{takesAll}
 use Rattle.star_unique.proofs.Clean.{Clean, clean-append}
 use Rattle.star_unique.proofs.Distinct.{among-absent}
@@ -69,11 +69,12 @@ module _ (x : List ℕ) where
 
   -- another token
   takes-fresh : (s : Taken) (t : Token) (ts : List Token) → Fresh x s → (List·Memᴰ x (namesIn (t ∷ ts)) → ⊥) → Fresh x (takes s t)
-  unfolding takes namesIn takeBlock takeFrame endFrame
+  unfolding takes namesIn takeBlock takeGlobal takeFrame endFrame
   takes-fresh s t ts h n =
       cond-holds (Fresh x) (eqb (t .kind) 1) _ _ (record { names = List·Memᴰ·not-nil; inner = List·Memᴰ·not-nil })
+      (cond-holds (Fresh x) (eqb (t .kind) 12) _ _ (record { names = List·Memᴰ·not-nil; inner = List·Memᴰ·not-nil })
       (cond-holds (Fresh x) (eqb (t .kind) 2) _ _ (record { names = h .names; inner = List·Memᴰ·not-nil })
-      (cond-holds (Fresh x) (eqb (t .kind) 3) _ _ (record { names = h .names; inner = List·Memᴰ·not-nil }) (go (eqb (t .kind) 6) n)))
+      (cond-holds (Fresh x) (eqb (t .kind) 3) _ _ (record { names = h .names; inner = List·Memᴰ·not-nil }) (go (eqb (t .kind) 6) n))))
     where
       go : (b : Bool) → (List·Memᴰ x (cond b (key (t .content) ∷ namesIn ts) (namesIn ts)) → ⊥) → Fresh x (cond b (takeName s t) s)
       go true m = name-fresh s t h (λ e. m (List·Memᴰ·head e))

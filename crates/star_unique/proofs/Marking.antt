@@ -6,19 +6,20 @@ use Prim.Native.Nat.{ℕ, zero, suc, _+_, _*_, _/_, _%_, _≤_, _<_}
 use native.Mathlib.Nat.{mod-lt}
 use native.Mathlib.Numerals.{add-one}
 use native.Mathlib.Omega.{arith}
-use lib.Dec.{eqb, ltb}
-use borrow.Author.Tests.{ltb-true, ltb-false, eqb-true, eqb-false, eq-eqb, ne-eqb}
+use lib.Dec.{eqb, leb, ltb}
+use borrow.Author.Tests.{leb-true, ltb-true, ltb-false, eqb-true, eqb-false, eq-eqb, ne-eqb}
 use lib.ListN.{length, getD, set, take, replicate, length-set, length-replicate, getD-replicate}
 use lib.Seq.{getD-set-same, getD-set-other, take-all}
 use Rattle.star_lex.specs.Tokens.{Token}
 use Rattle.star_unique.specs.Repeat.{nothing, isTaken, firstRepeat}
 use Rattle.star_unique.proofs.Seen.{takesAll}
 use Rattle.star_lex.specs.Holds.{Holds, fileTokens, tokenAt}
-use Rattle.star_unique.specs.Chain.{heldTable, nameSort, sortAt, passed, scopeAt, floorOf, hashOf, bucketOf, signOf, bucketAt, latest, markAt, earlier, takenAt}
+use Rattle.star_unique.specs.Chain.{heldTable, nameSort, sortAt, opensBlock, isValueKind, passed, scopeAt, floorOf, hashOf, bucketOf, signOf, bucketAt, latest, markAt, earlier, takenAt}
 use Rattle.star_unique.specs.Marked.{Spans, Marked, Heads, Visited}
 use Rattle.star_unique.specs.declared.Scope.{Scope}
 use Rattle.star_unique.proofs.Clean.{Clean, takes-next, clean-next, repeat-here, clean-repeat}
 use Rattle.star_lex.proofs.Held.{held-row, count-tokens}
+use Rattle.star_grammar.proofs.Sane.{both-left, both-right}
 use Rattle.star_unique.proofs.Scopes.{Agrees, agrees-nothing, agrees-next, taken-is}
 use Rattle.star_unique.proofs.Chain.{latest-within, sign-below, sign-sort, bucket-named, bucket-none}
 use Rattle.star_unique.proofs.Marks.{holds-spans, sort-below, mark-is}
@@ -247,24 +248,28 @@ module _ (file words heads : List ℕ) (count n : ℕ) (c : Scope) (b : Between 
     lasts = k;
   }
 
--- a value, or `global_`, is no name or code and opens no scope
+-- a value is no name or code and opens no scope
 sort-value : (inside : Bool) (kind : ℕ) → 7 ≤ kind → nameSort inside kind ≡ 0
 unfolding nameSort
 sort-value inside kind h =
     rw (ne-eqb kind 6 (λ e. absurd (omega arith)), ne-eqb kind 1 (λ e. absurd (omega arith)), ne-eqb kind 2 (λ e. absurd (omega arith)))
 
-passed-value : (c : Scope) (kind next : ℕ) → 7 ≤ kind → passed c kind next ≡ c
-unfolding passed
-passed-value c kind next h =
-    rw (ne-eqb kind 1 (λ e. absurd (omega arith)), ne-eqb kind 2 (λ e. absurd (omega arith)), ne-eqb kind 3 (λ e. absurd (omega arith)))
+passed-value : (c : Scope) (kind next : ℕ) → 7 ≤ kind → kind < 12 → passed c kind next ≡ c
+unfolding passed opensBlock
+passed-value c kind next h l =
+    rw (ne-eqb kind 1 (λ e. absurd (omega arith)), ne-eqb kind 12 (λ e. absurd (omega arith)), ne-eqb kind 2 (λ e. absurd (omega arith)), ne-eqb kind 3 (λ e. absurd (omega arith)))
 
-pub between-value : (file words heads : List ℕ) (count n : ℕ) (c : Scope) → Between file words heads count n c → n < count → 7 ≤ getD words (n * 3) 0
+pub between-value : (file words heads : List ℕ) (count n : ℕ) (c : Scope) → Between file words heads count n c → n < count → isValueKind (getD words (n * 3) 0) ≡ true
     → Between file words heads count (n + 1) c
-between-value file words heads count n c b below value =
+unfolding isValueKind
+between-value file words heads count n c b below e =
+    let kind : ℕ = getD words (n * 3) 0 in
+    let value : 7 ≤ kind = omega (arith, leb-true _ kind (both-left (leb _ kind) (ltb kind _) e)) in
+    let most : kind < 12 = omega (arith, ltb-true kind _ (both-right (leb _ kind) (ltb kind _) e)) in
     let v : Visited file count n false words heads =
     visit-plain file words heads count n (b .marks) (b .lasts) below
     (sym (sort-here file words count n (b .marks) below c (b .scope)) ∙ sort-value (c .inside) (getD words (n * 3) 0) value) in
-    subst (Between file words heads count (n + 1)) (passed-value c (getD words (n * 3) 0) (n + 1) value)
+    subst (Between file words heads count (n + 1)) (passed-value c (getD words (n * 3) 0) (n + 1) value most)
     (between-next file words heads count n c b below words heads (sym (v .says)) (v .next .0) (v .next .1))
 
 pub between-end : (file words heads : List ℕ) (count n : ℕ) (c : Scope) → Between file words heads count n c → count ≤ n

@@ -28,9 +28,10 @@ namesIn (t ∷ ts) = cond (eqb (t .kind) 6) (key (t .content) ∷ namesIn ts) (n
 abbrev pub opened : Taken → List (List ℕ)
 opened s = cond (s .inFrame) (s .inner) (s .names)
 
--- no heading, and no end of a frame
+-- no heading, no end of a frame and no `global_`
 pub record Inside (t : Token) : Type 0 where
-  pub kind : 3 < t .kind
+  pub low : 3 < t .kind
+  pub high : t .kind < 12
 
 pub names-append : (p q : List Token) → namesIn (p ++ q) ≡ namesIn p ++ namesIn q
 unfolding namesIn
@@ -72,15 +73,16 @@ pub other-taken : (s : Taken) (t : Token) → (t .kind ≡ 1 → ⊥) → (t .ki
 unfolding isTaken
 other-taken s t a b n = rw (ne-eqb (t .kind) 1 a, ne-eqb (t .kind) 2 b, ne-eqb (t .kind) 6 n)
 
-pub other-takes : (s : Taken) (t : Token) → (t .kind ≡ 1 → ⊥) → (t .kind ≡ 2 → ⊥) → (t .kind ≡ 3 → ⊥) → (t .kind ≡ 6 → ⊥) → takes s t ≡ s
+pub other-takes : (s : Taken) (t : Token) → (t .kind ≡ 1 → ⊥) → (t .kind ≡ 12 → ⊥) → (t .kind ≡ 2 → ⊥) → (t .kind ≡ 3 → ⊥) → (t .kind ≡ 6 → ⊥)
+    → takes s t ≡ s
 unfolding takes
-other-takes s t a b c n = rw (ne-eqb (t .kind) 1 a, ne-eqb (t .kind) 2 b, ne-eqb (t .kind) 3 c, ne-eqb (t .kind) 6 n)
+other-takes s t a g b c n = rw (ne-eqb (t .kind) 1 a, ne-eqb (t .kind) 12 g, ne-eqb (t .kind) 2 b, ne-eqb (t .kind) 3 c, ne-eqb (t .kind) 6 n)
 
 inside-taken : (s : Taken) (t : Token) → Inside t → (t .kind ≡ 6 → ⊥) → isTaken s t ≡ false
 inside-taken s t h n = other-taken s t (λ e. omega arith) (λ e. omega arith) n
 
 inside-takes-nothing : (s : Taken) (t : Token) → Inside t → (t .kind ≡ 6 → ⊥) → takes s t ≡ s
-inside-takes-nothing s t h n = other-takes s t (λ e. omega arith) (λ e. omega arith) (λ e. omega arith) n
+inside-takes-nothing s t h n = other-takes s t (λ e. omega arith) (λ e. omega arith) (λ e. omega arith) (λ e. omega arith) n
 
 -- a set whose names so far are a list
 module _ (at : List (List ℕ) → Taken) (own : (xs : List (List ℕ)) → opened (at xs) ≡ xs)

@@ -7,13 +7,12 @@ use mathlib.Core.Logic.{_↔_}
 use Prim.Native.Nat.{ℕ, zero, suc}
 use native.Mathlib.Omega.{arith}
 use lib.ListN.{length, replicate}
-use lib.Seq.{append-snoc}
 use Rattle.star_text.specs.Names.{key}
 use Rattle.star_lex.specs.Rules.{Rules}
 use Rattle.star_lex.specs.Tokens.{Token, Each}
-use Rattle.star_grammar.specs.Tree.{frameEnd, loopStart, stop, IsName, IsValue, Inner, Packet, innerYield, packetYield, InnerWhole, PacketWhole, loopYield, Entry, item, looped, entryYield, EntryBy, frameYield, Member, own, framed, memberYield, MemberBy, Block, blockYield, BlockBy, File, fileYield, FileBy}
-use Rattle.star_grammar.specs.Reading.{Distinct, contents, entryNames, ownNames, frameCodes, FrameDistinct, BlockDistinct, FileDistinct}
-use Rattle.star_unique.specs.Repeat.{Taken, nothing, among, isTaken, takes, takeBlock, takeFrame, endFrame, takeName, firstRepeat}
+use Rattle.star_grammar.specs.Tree.{frameEnd, loopStart, stop, IsName, IsValue, Inner, Packet, innerYield, packetYield, InnerWhole, PacketWhole, loopYield, Entry, item, looped, entryYield, EntryBy, frameYield, Member, own, framed, memberYield, MemberBy, Block, blockYield, IsHeading, isGlobal, BlockBy, File, fileYield, FileBy}
+use Rattle.star_grammar.specs.Reading.{Distinct, contents, entryNames, ownNames, frameCodes, FrameDistinct, BlockDistinct, blockCode, FileDistinct}
+use Rattle.star_unique.specs.Repeat.{Taken, nothing, among, isTaken, takes, takeBlock, takeGlobal, takeFrame, endFrame, takeName, firstRepeat}
 use Rattle.star_unique.proofs.Seen.{takesAll}
 use Rattle.star_unique.proofs.Clean.{Clean, takes-append, clean-append, repeat-clean, clean-repeat}
 use Rattle.star_unique.proofs.Distinct.{distinct-among}
@@ -37,19 +36,19 @@ naming-nil = record { inside = tt; names = refl }
 
 naming-loop : Naming (loopStart ∷ []) []
 unfolding namesIn loopStart
-naming-loop = record { inside = (record { kind = omega arith }, tt); names = refl }
+naming-loop = record { inside = (record { low = omega arith; high = omega arith }, tt); names = refl }
 
 naming-stop : Naming (stop ∷ []) []
 unfolding namesIn stop
-naming-stop = record { inside = (record { kind = omega arith }, tt); names = refl }
+naming-stop = record { inside = (record { low = omega arith; high = omega arith }, tt); names = refl }
 
 each-names : (ts : List Token) → Each IsName ts → Each Inside ts
 each-names [] h = tt
-each-names (t ∷ ts) h = (record { kind = omega (arith, h .0 .kind6) }, each-names ts (h .1))
+each-names (t ∷ ts) h = (record { low = omega (arith, h .0 .kind6); high = omega (arith, h .0 .kind6) }, each-names ts (h .1))
 
 each-values : (ts : List Token) → Each IsValue ts → Each Inside ts
 each-values [] h = tt
-each-values (t ∷ ts) h = (record { kind = omega (arith, h .0 .low) }, each-values ts (h .1))
+each-values (t ∷ ts) h = (record { low = omega (arith, h .0 .low); high = omega (arith, h .0 .high) }, each-values ts (h .1))
 
 naming-names : (ts : List Token) → Each IsName ts → Naming ts (contents ts)
 naming-names ts h = record { inside = each-names ts h; names = names-names ts h }
@@ -217,66 +216,70 @@ module _ (rules : Rules) (bs : List (List ℕ)) where
             (e .0, e .1, a .1 (e .2, d .2)),
       )
 
-heading-takes : (s : Taken) (t : Token) → t .kind ≡ 1 → takes s t ≡ inBlock (s .blocks ++ (key (t .content) ∷ [])) [] []
-unfolding takes takeBlock
-heading-takes s t e = rw e
+-- what begins a block: a heading takes its code, `global_` nothing
+heading-takes : (s : Taken) (b : Block) → IsHeading (b .heading) → takes s (b .heading) ≡ inBlock (s .blocks ++ blockCode b) [] []
+unfolding takes takeBlock takeGlobal blockCode isGlobal
+heading-takes s b (IsHeading.data-block e) = rw e
+heading-takes s b (IsHeading.global-block e) = rw (e, append-nil)
 
-heading-taken : (s : Taken) (t : Token) → t .kind ≡ 1 → isTaken s t ≡ among (key (t .content)) (s .blocks)
-unfolding isTaken
-heading-taken s t e = rw e
+heading-taken : (s : Taken) (b : Block) → IsHeading (b .heading)
+    → (Distinct (s .blocks) × (isTaken s (b .heading) ≡ false)) ↔ Distinct (s .blocks ++ blockCode b)
+unfolding isTaken blockCode isGlobal
+heading-taken s b (IsHeading.data-block e) = rw e (distinct-among (s .blocks) (key (b .heading .content)))
+heading-taken s b (IsHeading.global-block e) = rw (e, append-nil) (λ d. d .0, λ d. (d, refl))
 
 module _ (rules : Rules) where
   -- a block leaves its code
-  block-code : (b : Block) → BlockBy rules b → (s : Taken) → takesAll s (blockYield b) .blocks ≡ s .blocks ++ (key (b .heading .content) ∷ [])
+  block-code : (b : Block) → BlockBy rules b → (s : Taken) → takesAll s (blockYield b) .blocks ≡ s .blocks ++ blockCode b
   unfolding blockYield
   block-code b h s =
-      let bs : List (List ℕ) = s .blocks ++ (key (b .heading .content) ∷ []) in
-      ap (λ r. takesAll r (flatMap memberYield (b .members)) .blocks) (heading-takes s (b .heading) (h .heading))
-      ∙ ap (λ r. r .blocks) (members-takes rules bs (b .members) (h .members) [] [])
+      ap (λ r. takesAll r (flatMap memberYield (b .members)) .blocks) (heading-takes s b (h .heading))
+      ∙ ap (λ r. r .blocks) (members-takes rules (s .blocks ++ blockCode b) (b .members) (h .members) [] [])
 
   block-distinct : (b : Block) → BlockBy rules b → (s : Taken)
-      → Clean s (blockYield b) ↔ ((among (key (b .heading .content)) (s .blocks) ≡ false) × BlockDistinct b)
+      → (Distinct (s .blocks) × Clean s (blockYield b)) ↔ (Distinct (s .blocks ++ blockCode b) × BlockDistinct b)
   unfolding blockYield
   block-distinct b h s =
-      let bs : List (List ℕ) = s .blocks ++ (key (b .heading .content) ∷ []) in
+      let bs : List (List ℕ) = s .blocks ++ blockCode b in
       let ms : List Token = flatMap memberYield (b .members) in
+      let d : (Distinct (s .blocks) × (isTaken s (b .heading) ≡ false)) ↔ Distinct bs = heading-taken s b (h .heading) in
       let k : (Unit {0} × Unit {0} × Clean (inBlock bs [] []) ms) ↔ (Distinct (flatMap frameCodes (b .members)) × Distinct (flatMap ownNames (b .members)) × Each FrameDistinct (b .members))
       = members-clean rules bs (b .members) (h .members) [] [] in
-      rw (heading-taken s (b .heading) (h .heading), heading-takes s (b .heading) (h .heading)) (
-        λ c. (c .0, record { names = k .0 (tt, tt, c .1) .1; codes = k .0 (tt, tt, c .1) .0; frames = k .0 (tt, tt, c .1) .2 }),
-        λ c. (c .0, k .1 (c .1 .codes, c .1 .names, c .1 .frames) .2),
+      rw (heading-takes s b (h .heading)) (
+        λ c. (d .0 (c .0, c .1 .0), record { names = k .0 (tt, tt, c .1 .1) .1; codes = k .0 (tt, tt, c .1 .1) .0; frames = k .0 (tt, tt, c .1 .1) .2 }),
+        λ c. (d .1 (c .0) .0, (d .1 (c .0) .1, k .1 (c .1 .codes, c .1 .names, c .1 .frames) .2)),
       )
 
   file-distinct : (f : File) → FileBy rules f → (s : Taken)
-      → (Distinct (s .blocks) × Clean s (fileYield f)) ↔ (Distinct (s .blocks ++ map (λ b. key (b .heading .content)) f) × Each BlockDistinct f)
+      → (Distinct (s .blocks) × Clean s (fileYield f)) ↔ (Distinct (s .blocks ++ flatMap blockCode f) × Each BlockDistinct f)
   unfolding flatMap
   file-distinct [] h s = rw append-nil (λ c. c, λ c. c)
   file-distinct (b ∷ f) h s =
-      let code : List ℕ = key (b .heading .content) in
-      let codes : List (List ℕ) = map (λ b. key (b .heading .content)) f in
+      let bs : List (List ℕ) = s .blocks ++ blockCode b in
+      let codes : List (List ℕ) = flatMap blockCode f in
       let u : Taken = takesAll s (blockYield b) in
-      let d : (Distinct (s .blocks) × (among code (s .blocks) ≡ false)) ↔ Distinct (s .blocks ++ (code ∷ [])) = distinct-among (s .blocks) code in
-      let k : Clean s (blockYield b) ↔ ((among code (s .blocks) ≡ false) × BlockDistinct b) = block-distinct b (h .0) s in
+      let k : (Distinct (s .blocks) × Clean s (blockYield b)) ↔ (Distinct bs × BlockDistinct b) = block-distinct b (h .0) s in
       let a : Clean s (blockYield b ++ fileYield f) ↔ (Clean s (blockYield b) × Clean u (fileYield f)) = clean-append s (blockYield b) (fileYield f) in
-      let r : (Distinct (s .blocks ++ (code ∷ [])) × Clean u (fileYield f)) ↔ (Distinct (s .blocks ++ (code ∷ []) ++ codes) × Each BlockDistinct f)
+      let r : (Distinct bs × Clean u (fileYield f)) ↔ (Distinct (bs ++ codes) × Each BlockDistinct f)
       = rw (← (block-code b (h .0) s)) (file-distinct f (h .1) u) in
-      rw (← append-snoc (s .blocks) code codes) (
+      rw (← (append-assoc (s .blocks) (blockCode b) codes)) (
         λ c.
-            let e : (among code (s .blocks) ≡ false) × BlockDistinct b = k .0 (a .0 (c .1) .0) in
-            let g : Distinct (s .blocks ++ (code ∷ []) ++ codes) × Each BlockDistinct f = r .0 (d .0 (c .0, e .0), a .0 (c .1) .1) in
+            let e : Distinct bs × BlockDistinct b = k .0 (c .0, a .0 (c .1) .0) in
+            let g : Distinct (bs ++ codes) × Each BlockDistinct f = r .0 (e .0, a .0 (c .1) .1) in
             (g .0, (e .1, g .1)),
         λ c.
-            let g : Distinct (s .blocks ++ (code ∷ [])) × Clean u (fileYield f) = r .1 (c .0, c .1 .1) in
-            (d .1 (g .0) .0, a .1 (k .1 (d .1 (g .0) .1, c .1 .0), g .1)),
+            let g : Distinct bs × Clean u (fileYield f) = r .1 (c .0, c .1 .1) in
+            let e : Distinct (s .blocks) × Clean s (blockYield b) = k .1 (g .0, c .1 .0) in
+            (e .0, a .1 (e .1, g .1)),
       )
 
   -- a whole tree is distinct exactly when its tokens repeat nothing
   pub repeat-distinct : (f : File) → FileBy rules f → FileDistinct f ↔ (firstRepeat nothing (fileYield f) ≡ length (fileYield f))
   unfolding nothing
   repeat-distinct f h =
-      let k : (Unit {0} × Clean nothing (fileYield f)) ↔ (Distinct (map (λ b. key (b .heading .content)) f) × Each BlockDistinct f) = file-distinct f h nothing in (
+      let k : (Unit {0} × Clean nothing (fileYield f)) ↔ (Distinct (flatMap blockCode f) × Each BlockDistinct f) = file-distinct f h nothing in (
         λ d. clean-repeat nothing (fileYield f) (k .1 (d .codes, d .blocks) .1),
         λ e.
-            let c : Distinct (map (λ b. key (b .heading .content)) f) × Each BlockDistinct f = k .0 (tt, repeat-clean nothing (fileYield f) e) in
+            let c : Distinct (flatMap blockCode f) × Each BlockDistinct f = k .0 (tt, repeat-clean nothing (fileYield f) e) in
             record { blocks = c .1; codes = c .0 },
       )

@@ -9,8 +9,8 @@ use borrow.Author.Tests.{eqb-true, eqb-false, eq-eqb, ne-eqb, le-leb}
 use Rattle.star_text.specs.Names.{key, equal, same}
 use Rattle.star_lex.specs.Tokens.{Token}
 use Rattle.star_lex.proofs.Cases.{impossible}
-use Rattle.star_unique.specs.Repeat.{Taken, nothing, among, isTaken, takes, takeBlock, takeFrame, endFrame, takeName}
-use Rattle.star_unique.specs.Chain.{nameSort, floorOf, passed, scopeAt, sortAt, earlier, takenAt}
+use Rattle.star_unique.specs.Repeat.{Taken, nothing, among, isTaken, takes, takeBlock, takeGlobal, takeFrame, endFrame, takeName}
+use Rattle.star_unique.specs.Chain.{nameSort, floorOf, opensBlock, passed, scopeAt, sortAt, earlier, takenAt}
 use Rattle.star_unique.specs.declared.Scope.{Scope}
 use Rattle.star_unique.proofs.Chain.{earlier-floor, earlier-other}
 
@@ -58,6 +58,18 @@ module _ (at : ℕ → Token) (x : List ℕ) (s : Taken) (c : Scope) (n : ℕ) (
   unfolding takeBlock
   after-block e = record {
     blocks = earlier-taken 1 0 e (omega arith) (s .blocks) (a .blocks);
+    frames = earlier-fresh 2;
+    names = earlier-fresh 6;
+    inside = refl;
+    inner = λ f. impossible cc;
+    block-within = omega arith;
+    frame-within = omega arith;
+  }
+
+  after-global : sortAt at n ≡ 0 → Agrees at x (takeGlobal s) (record { block = suc n; frame = suc n; inside = false }) (suc n)
+  unfolding takeGlobal
+  after-global e = record {
+    blocks = a .blocks ∙ earlier-unsorted 1 0 (λ q. absurd (omega arith));
     frames = earlier-fresh 2;
     names = earlier-fresh 6;
     inside = refl;
@@ -127,8 +139,8 @@ module _ (at : ℕ → Token) (x : List ℕ) (s : Taken) (c : Scope) (n : ℕ) (
 
   -- one token more
   pub agrees-next : c ≡ scopeAt at n → Agrees at x (takes s (at n)) (passed c (at n .kind) (suc n)) (suc n)
-  unfolding takes passed sortAt nameSort
-  agrees-next e = go (eqb (at n .kind) 1) refl (eqb (at n .kind) 2) refl (eqb (at n .kind) 3) refl (eqb (at n .kind) 6) refl
+  unfolding takes takeBlock takeFrame takeName passed opensBlock sortAt nameSort
+  agrees-next e = go (eqb (at n .kind) 1) refl (eqb (at n .kind) 12) refl (eqb (at n .kind) 2) refl (eqb (at n .kind) 3) refl (eqb (at n .kind) 6) refl
     where
       sort-is : (k : ℕ) → at n .kind ≡ k → sortAt at n ≡ nameSort (c .inside) k
       sort-is k d = rw (e, d)
@@ -140,16 +152,18 @@ module _ (at : ℕ → Token) (x : List ℕ) (s : Taken) (c : Scope) (n : ℕ) (
       named true f d = after-inner f (sort-is 6 d ∙ rw f)
       named false f d = after-name f (sort-is 6 d ∙ rw f)
 
-      go : (p : Bool) → eqb (at n .kind) 1 ≡ p → (q : Bool) → eqb (at n .kind) 2 ≡ q → (r : Bool) → eqb (at n .kind) 3 ≡ r → (t : Bool)
-          → eqb (at n .kind) 6 ≡ t
-          → Agrees at x (cond p (takeBlock s (at n)) (cond q (takeFrame s (at n)) (cond r (endFrame s) (cond t (takeName s (at n)) s))))
-          (cond p (record { block = suc n; frame = suc n; inside = false }) (cond q (record { block = c .block; frame = suc n; inside = true }) (cond r (record { block = c .block; frame = c .frame; inside = false }) c)))
-          (suc n)
-      go true d q f r g t h = after-block (sort-is 1 (eqb-true _ _ d))
-      go false d true f r g t h = after-frame (sort-is 2 (eqb-true _ _ f))
-      go false d false f true g t h = after-end (sort-is 3 (eqb-true _ _ g))
-      go false d false f false g true h = named (c .inside) refl (eqb-true _ _ h)
-      go false d false f false g false h = after-other (sort-other (eqb-false _ _ d) (eqb-false _ _ f) (eqb-false _ _ h))
+      -- by the kind
+      known : (k : ℕ) → eqb (at n .kind) k ≡ true → at n .kind ≡ k
+      known k d = eqb-true (at n .kind) k d
+
+      go : (p : Bool) → eqb (at n .kind) 1 ≡ p → (o : Bool) → eqb (at n .kind) 12 ≡ o → (q : Bool) → eqb (at n .kind) 2 ≡ q → (r : Bool)
+          → eqb (at n .kind) 3 ≡ r → (t : Bool) → eqb (at n .kind) 6 ≡ t → Agrees at x (takes s (at n)) (passed c (at n .kind) (suc n)) (suc n)
+      go true d o l q f r g t h = rw (known 1 d) (after-block (sort-is 1 (known 1 d)))
+      go false d true l q f r g t h = rw (known 12 l) (after-global (sort-is 12 (known 12 l)))
+      go false d false l true f r g t h = rw (known 2 f) (after-frame (sort-is 2 (known 2 f)))
+      go false d false l false f true g t h = rw (known 3 g) (after-end (sort-is 3 (known 3 g)))
+      go false d false l false f false g true h = rw (known 6 h) (named (c .inside) refl (known 6 h))
+      go false d false l false f false g false h = rw (d, l, f, g, h) (after-other (sort-other (eqb-false _ _ d) (eqb-false _ _ f) (eqb-false _ _ h)))
 
 -- a token is taken as its sort and scope say
 pub taken-is : (at : ℕ → Token) (s : Taken) (n : ℕ) → Agrees at (at n .content) s (scopeAt at n) n → takenAt at n ≡ isTaken s (at n)

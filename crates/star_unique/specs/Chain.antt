@@ -3,7 +3,7 @@
 use mathlib.Core.Bool.{Bool, true, false, cond, _&&_, _||_}
 use mathlib.Core.List.{List, [], _∷_}
 use Prim.Native.Nat.{ℕ, zero, suc, _+_, _*_, _/_, _%_}
-use lib.Dec.{eqb, leb}
+use lib.Dec.{eqb, leb, ltb}
 use Rattle.star_text.specs.Names.{key, same}
 use Rattle.star_rows.specs.Rows.{holding}
 use Rattle.star_lex.specs.Tokens.{Token, tokenRow}
@@ -22,10 +22,18 @@ nameSort inside kind = cond (eqb kind 6) (cond inside 13 6) (cond (eqb kind 1) 1
 unfoldable pub floorOf : Scope → (sort : ℕ) → ℕ
 floorOf s sort = cond (eqb sort 1) 0 (cond (eqb sort 13) (s .frame) (s .block))
 
+-- a heading or `global_`
+unfoldable pub opensBlock : (kind : ℕ) → Bool
+opensBlock kind = eqb kind 1 || eqb kind 12
+
+-- a value
+unfoldable pub isValueKind : (kind : ℕ) → Bool
+isValueKind kind = leb 7 kind && ltb kind 12
+
 -- the scopes after a token of this kind, with the row after it
 unfoldable pub passed : Scope → (kind next : ℕ) → Scope
 passed s kind next =
-    cond (eqb kind 1) (record { block = next; frame = next; inside = false })
+    cond (opensBlock kind) (record { block = next; frame = next; inside = false })
     (cond (eqb kind 2) (record { block = s .block; frame = next; inside = true })
     (cond (eqb kind 3) (record { block = s .block; frame = s .frame; inside = false }) s))
 

@@ -1,5 +1,5 @@
 -- The first name or code of a row of tokens that is already taken (specification 5): names are unique within a block, its frames not counted, and
--- within a frame; frame codes are unique within a block, block codes within the file. For contracts, and `readBy`; `repeat-distinct` ties it to what a reading asks.
+-- within a frame; frame codes are unique within a block, block codes within the file. A global block is a block without a code. For contracts, and `readBy`; `repeat-distinct` ties it to what a reading asks.
 use mathlib.Core.Bool.{Bool, false, true, cond, _||_}
 use mathlib.Core.List.{List, [], _∷_, _++_}
 use Prim.Native.Nat.{ℕ, suc}
@@ -33,6 +33,10 @@ isTaken s t =
 unfoldable pub takeBlock : Taken → Token → Taken
 takeBlock s t = record { blocks = s .blocks ++ (key (t .content) ∷ []); frames = []; names = []; inner = []; inFrame = false }
 
+-- `global_` opens a block and has no code
+unfoldable pub takeGlobal : Taken → Taken
+takeGlobal s = record { blocks = s .blocks; frames = []; names = []; inner = []; inFrame = false }
+
 unfoldable pub takeFrame : Taken → Token → Taken
 takeFrame s t = record { blocks = s .blocks; frames = s .frames ++ (key (t .content) ∷ []); names = s .names; inner = []; inFrame = true }
 
@@ -49,8 +53,9 @@ takeName s t =
 unfoldable pub takes : Taken → Token → Taken
 takes s t =
     cond (eqb (t .kind) 1) (takeBlock s t)
+    (cond (eqb (t .kind) 12) (takeGlobal s)
     (cond (eqb (t .kind) 2) (takeFrame s t)
-    (cond (eqb (t .kind) 3) (endFrame s) (cond (eqb (t .kind) 6) (takeName s t) s)))
+    (cond (eqb (t .kind) 3) (endFrame s) (cond (eqb (t .kind) 6) (takeName s t) s))))
 
 -- how many tokens stand before the first that is taken; all of them where none is
 unfoldable pub firstRepeat : Taken → List Token → ℕ

@@ -9,7 +9,7 @@ ghost use Rattle.star_rows.specs.Widths.{tokenWidth};
 ghost use Rattle.star_text.specs.Names.{same as Names·same};
 ghost use Rattle.star_unique.specs.Repeat.{nothing, firstRepeat};
 ghost use Rattle.star_lex.specs.Holds.{Holds, fileTokens, tokenAt};
-ghost use Rattle.star_unique.specs.Chain.{nameSort, floorOf, passed, scopeAt, hashOf, bucketOf, signOf, bucketAt, latest, earlier, unmarkedKind, heldTable};
+ghost use Rattle.star_unique.specs.Chain.{nameSort, floorOf, opensBlock, isValueKind, passed, scopeAt, hashOf, bucketOf, signOf, bucketAt, latest, earlier, unmarkedKind, heldTable};
 ghost use Rattle.star_unique.specs.Marked.{Spans, Marked, Heads, Visited};
 ghost use Rattle.star_unique.specs.Compared.{Compares};
 
@@ -27,7 +27,7 @@ fn span<'a>(file: &'a [u8], tokens: &[u32], count: usize, n: usize) -> &'a [u8]
     &file[start..end]
 }
 
-// Where the scopes begin: the row after the heading of the open block, the row after the heading of the last frame, and whether that is open.
+// Where the scopes begin: the row after the heading of the open block, or after its `global_`, the row after the heading of the last frame, and whether that is open.
 struct Scope {
     block: usize,
     frame: usize,
@@ -66,11 +66,18 @@ fn floor_of(scope: Scope, sort: u32) -> usize
     scope.block
 }
 
+// Whether a token of this kind is a heading or `global_`.
+fn opens_block(kind: u32) -> bool
+    ensures { λ r. ⌜ r ≡ opensBlock kind ⌝ }
+{
+    if kind == 1 { true } else { kind == 12 }
+}
+
 // The scopes after a token of this kind, whose next row is `next`.
 fn pass(scope: Scope, kind: u32, next: usize) -> Scope
     ensures { λ r. ⌜ r ≡ passed scope kind next ⌝ }
 {
-    if kind == 1 {
+    if opens_block(kind) {
         return Scope {
             block: next,
             frame: next,
@@ -190,7 +197,14 @@ fn visit(
     false
 }
 
-// How many tokens stand before the first that is taken; those are marked. Tokens of kind 7 and above, values and `global_`, are passed over.
+// Whether a token of this kind is a value.
+fn is_value(kind: u32) -> bool
+    ensures { λ r. ⌜ r ≡ isValueKind kind ⌝ }
+{
+    if kind < 7 { false } else { kind < 12 }
+}
+
+// How many tokens stand before the first that is taken; those are marked. Values are passed over.
 fn mark(file: &[u8], tokens: &mut [u32], count: usize, heads: &mut [u32]) -> usize
     requires { ⌜ Holds (now file) (now tokens) count ⌝ }
     requires { ⌜ Heads (now file) (now heads) 0 ⌝ }
@@ -205,7 +219,7 @@ fn mark(file: &[u8], tokens: &mut [u32], count: usize, heads: &mut [u32]) -> usi
     let mut n = 0;
     while n < count {
         let kind = tokens[n * WIDTH];
-        if kind >= 7 {
+        if is_value(kind) {
             n += 1;
             continue;
         }

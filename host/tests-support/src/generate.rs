@@ -1,5 +1,6 @@
 //! Files and tables to compare readers on, all from seeds.
 
+pub mod globals;
 pub mod numbers;
 pub mod pairs;
 pub mod twins;
@@ -232,13 +233,19 @@ impl Builder<'_> {
 
     fn file(&mut self) {
         let mut codes = Taken::new();
-        for _ in 0..self.rng.pick(&[0, 1, 1, 1, 2, 3, 5]) {
-            self.unique("data_", &mut codes);
+        // of four blocks so many are global, about
+        let globals = self.rng.pick(&[0, 0, 1, 3]);
+        for _ in 0..self.rng.pick(&[0, 1, 1, 2, 2, 3, 5]) {
+            if self.rng.below(4) < globals {
+                self.word("global_");
+            } else {
+                self.unique("data_", &mut codes);
+            }
             self.set(true);
         }
     }
 
-    /// Items, loops and, in a block, save frames.
+    /// Items, loops and, in a data or global block, save frames.
     fn set(&mut self, block: bool) {
         let mut names = Taken::new();
         let mut codes = Taken::new();
@@ -370,7 +377,8 @@ fn laid_out(rng: &mut Rng, pieces: &[Piece]) -> Vec<u8> {
     }
 }
 
-/// A file that is accepted: blocks, frames, items and loops of all levels.
+/// A file that is accepted: data and global blocks, frames, items and loops of all
+/// levels.
 pub fn valid(rng: &mut Rng) -> Vec<u8> {
     let pieces = pieces(rng);
     laid_out(rng, &pieces)
@@ -451,8 +459,8 @@ fn damage_bytes(rng: &mut Rng, file: &mut Vec<u8>) {
 fn soup_piece(rng: &mut Rng) -> Piece {
     const WORDS: &str = "data_a data_b data_c save_f save_g save_a save_ save_ save_ \
         loop_ loop_ loop_ loop_ loop_ stop_ stop_ stop_ stop_ _x _y _z _a _b _c _d _e _f \
-        1 2 3 4 5 6 7 ? . $f $ ;b 'q' \"it's\" ''' '' C#N # DATA_b _data_ a global_";
-    const FAULTS: &str = "global_ data_ _ loop_x stop_1 global_a 'open \"a'";
+        1 2 3 4 5 6 7 ? . $f $ ;b 'q' \"it's\" ''' '' C#N # DATA_b GLOBAL_ _data_ a global_ global_";
+    const FAULTS: &str = "data_ _ loop_x stop_1 global_a 'open \"a'";
     const OPEN: [&str; 4] = ["\n;open", "\n;a\n;b", "\r\n;open\r", "\r\n;a\r\n;b"];
     match rng.below(60) {
         0 if rng.once_in(5) => Piece::word(rng.pick(&OPEN)),
@@ -474,8 +482,10 @@ fn at_limit(rng: &mut Rng) -> Vec<u8> {
 /// A row of tokens of any kinds.
 pub fn soup(rng: &mut Rng) -> Vec<u8> {
     let mut pieces = Vec::new();
-    if !rng.once_in(8) {
-        pieces.push(Piece::word("data_a"));
+    match rng.below(8) {
+        0 => {}
+        1 => pieces.push(Piece::word("global_")),
+        _ => pieces.push(Piece::word("data_a")),
     }
     if rng.once_in(2) {
         pieces.push(Piece::word("loop_"));
@@ -585,6 +595,12 @@ pub fn largest() -> Vec<(&'static str, Vec<u8>)> {
             padded(b"data_a loop_ _x loop_ _y 1 ", b"2 ", b"stop_", most),
         ),
         ("empty packets of a level", padded(b"data_a loop_ _x loop_ _y ", b"1 stop_\n", b"", most)),
+        ("global blocks", padded(b"", b"global_ ", b"", most)),
+        ("global blocks, one more", padded(b"", b"global_ ", b"", most + 1)),
+        ("global blocks of one name", padded(b"data_a ", b"global_ _x 1 ", b"", most)),
+        ("global blocks of one frame", padded(b"", b"global_ save_f save_ ", b"data_a", most)),
+        ("global_ at the end", padded(b"data_a loop_ _x ", b"1 ", b"global_", most)),
+        ("global_ in a packet", padded(b"data_a loop_ _x _y 1 ", b"2 3 ", b"global_", most)),
         ("a repeated code at the end", padded(b"data_a loop_ _x ", b"1 ", b" data_a", most)),
         ("a name without value at the end", padded(b"data_a loop_ _x ", b"1 ", b" _y", most)),
     ]
@@ -608,11 +624,11 @@ fn kindred(family: usize, number: usize) -> Vec<u8> {
 pub fn many_names(rng: &mut Rng, count: usize) -> Vec<u8> {
     // so many of the longest are over the largest size
     let family = rng.below(if count > 8_000 { 5 } else { 7 });
-    let layout = rng.below(5);
+    let layout = rng.below(6);
     let (one, other) = (rng.below(count), rng.below(count));
     let repeats = rng.once_in(2);
-    let mut file = b"data_ ".to_vec();
-    file[5] = b'-';
+    let heading: &[u8] = if rng.once_in(3) { b"global_" } else { b"data_-" };
+    let mut file = heading.to_vec();
     file.extend_from_slice(if layout == 1 { b" loop_ " } else { b" " });
     for number in 0..count {
         let number = if repeats && number == one { other } else { number };
@@ -626,6 +642,8 @@ pub fn many_names(rng: &mut Rng, count: usize) -> Vec<u8> {
             2 => file.extend([b"data_".as_slice(), &name, b" _x 1\n"].concat()),
             // frames with the same names
             3 => file.extend([b"save_".as_slice(), &name, b" _x 1 _y 2 save_\n"].concat()),
+            // global blocks, where a repeat is allowed
+            4 => file.extend([b"_".as_slice(), &name, b" 1 global_ _x 2\n"].concat()),
             // names that come again in frames
             _ => {
                 let frame = format!("save_{number} _{number} 1 save_ ");
@@ -754,10 +772,10 @@ pub fn question(rng: &mut Rng, handed: &Handed) -> Question {
         0 => telling(rng, handed),
         _ => rng.pick(&[0, 1, 1, 1, 1, 2, 2, 3, 4, 7]),
     };
-    // the code of a set with its parent, a name with its set, or any token
+    // the code of a set with its parent, a name with its set or with any, or any token
     let at = |row: u32, width: usize| row.wrapping_sub(1) as usize * width;
     let (of_set, of_name) = (at(set, 3), at(name_row, 4));
-    let token = match rng.below(3) {
+    let token = match rng.below(4) {
         0 => {
             let code = handed.tables[1].get(of_set + 1).copied();
             set = handed.tables[1].get(of_set + 2).copied().unwrap_or(set);
@@ -767,6 +785,8 @@ pub fn question(rng: &mut Rng, handed: &Handed) -> Question {
             set = handed.tables[2].get(of_name).copied().unwrap_or(set);
             handed.tables[2].get(of_name + 1).copied()
         }
+        // of a global block maybe, or of a later set
+        2 => handed.tables[2].get(of_name + 1).copied(),
         _ => Some(row(rng, 0)),
     };
     let sought = token.map_or(Vec::new(), |token| content(handed, token));
@@ -817,9 +837,72 @@ mod tests {
             let (checked, _) = reference::fits_32(&file, reference::words_needed(&file));
             fit[checked.yes as usize] += 1;
         }
-        assert!(kinds[1..=11].iter().all(|&count| count > 100), "{kinds:?}");
+        assert!(kinds[1..].iter().all(|&count| count > 100), "{kinds:?}");
         assert!(levels[1..].iter().all(|&count| count > 10), "{levels:?}");
         assert!(fit.iter().all(|&count| count > 800), "{fit:?}");
+    }
+
+    /// Global blocks stand in every place, hold everything and end every sort of loop.
+    #[test]
+    fn global_blocks_are_varied() {
+        const SORTS: [&str; 10] = [
+            "first",
+            "between data blocks",
+            "last",
+            "two in a row",
+            "empty",
+            "with a frame",
+            "with a loop",
+            "after a loop",
+            "after a loop of more levels",
+            "a name again in a later one",
+        ];
+        let mut counts = [0u32; SORTS.len()];
+        for seed in 0..3000 {
+            let file = valid(&mut Rng::new(seed));
+            let needed = reference::words_needed(&file);
+            let (_, [tokens, sets, names, _, values]) = reference::read(&file, needed);
+            let kinds: Vec<u32> = tokens.chunks(3).map(|row| row[0]).collect();
+            // of blocks: whether they are global, their set and their heading
+            let numbered = sets.chunks(3).zip(1u32..).filter(|(row, _)| row[2] == 0);
+            let blocks: Vec<_> = numbered.map(|(row, set)| (row[0] == 3, set, row[1])).collect();
+            let name_of = |row: &[u32]| {
+                let span = &tokens[3 * (row[1] as usize - 1) + 1..][..2];
+                &file[span[0] as usize..span[1] as usize]
+            };
+            let mut before = HashSet::new();
+            for (at, &(global, set, heading)) in blocks.iter().enumerate() {
+                if !global {
+                    continue;
+                }
+                let heading = heading as usize;
+                let is = |at: Option<usize>, global: bool| {
+                    at.and_then(|at| blocks.get(at)).is_some_and(|block| block.0 == global)
+                };
+                let own: Vec<&[u32]> = names.chunks(4).filter(|row| row[0] == set).collect();
+                let looped =
+                    values.chunks(3).any(|row| row[2] as usize + 1 == heading && row[1] != 0);
+                let holds = [
+                    at == 0,
+                    is(at.checked_sub(1), false) && is(Some(at + 1), false),
+                    at + 1 == blocks.len(),
+                    is(at.checked_sub(1), true),
+                    matches!(kinds.get(heading), None | Some(1 | 12)),
+                    sets.chunks(3).any(|row| row[2] == set),
+                    own.iter().any(|row| row[2] != 0),
+                    looped,
+                    heading > 1 && kinds[heading - 2] == 5,
+                    own.iter().any(|row| before.contains(name_of(row))),
+                ];
+                before.extend(own.iter().map(|row| name_of(row)));
+                for (count, holds) in counts.iter_mut().zip(holds) {
+                    *count += u32::from(holds);
+                }
+            }
+        }
+        for (sort, count) in SORTS.iter().zip(counts) {
+            assert!(count > 20, "{sort}: {counts:?}");
+        }
     }
 
     /// Names, codes and references reach the limits, and references go over them.

@@ -1,6 +1,6 @@
 //! Bytes in the escaped notation of the lists in vectors/, and those lists.
 
-use tackturnel::Checked;
+use tackturnel::{Checked, Found};
 
 /// Bytes in the escaped notation: `\n \r \t \v \f \\` and `\xNN` as in C. A
 /// bar, and a blank at either end, are written `\x7c` and `\x20`.
@@ -128,6 +128,41 @@ fn checked_vector(line: usize, text: &str) -> CheckedVector {
     let [tokens, sets, names, packets, values] = counts;
     let answer = Checked { refusal, place, yes, tokens, sets, names, packets, values };
     CheckedVector { line, file: unescaped(fields[0]), answer }
+}
+
+/// A file, a name that is asked of one of its sets, and the answer that is expected.
+#[derive(Clone, Debug)]
+pub struct NameVector {
+    /// The line of the vector in its list, from 1.
+    pub line: usize,
+    /// The file's bytes, which are accepted.
+    pub file: Vec<u8>,
+    /// The set.
+    pub set: u32,
+    /// The name.
+    pub name: Vec<u8>,
+    /// What the lookup answers in the file's own tables.
+    pub answer: Found,
+}
+
+/// The vectors of a list of lookups; its first line says how it is written.
+pub fn name_vectors(list: &str) -> Vec<NameVector> {
+    let lines = list.lines().enumerate().skip(1);
+    lines.map(|(at, line)| name_vector(at + 1, line)).collect()
+}
+
+fn name_vector(line: usize, text: &str) -> NameVector {
+    let fields: Vec<&str> = text.split(" | ").collect();
+    assert_eq!(fields.len(), 3, "line {line}: three fields");
+    let (set, name) = fields[1].split_once(' ').expect("a set and a name");
+    let [refusal, row]: [u32; 2] = numbers(fields[2]).try_into().expect("two numbers");
+    NameVector {
+        line,
+        file: unescaped(fields[0]),
+        set: set.parse().expect("a set"),
+        name: unescaped(name),
+        answer: Found { refusal, row },
+    }
 }
 
 /// A content and the number that is expected for it.

@@ -221,16 +221,19 @@ pub struct Rows {
     pub values: Vec<[u32; 3]>,
 }
 
-/// The rows of a file's tokens, or the first of refusals 8 to 12.
+/// The rows of a file's tokens, or the first of refusals 8 to 11.
 pub fn rows(file: &[u8], tokens: &[Token]) -> Result<Rows, Refusal> {
     let mut parser = Parser { file, tokens, next: 0, loops: 0, rows: Rows::default() };
     let mut codes = HashSet::new();
     loop {
-        match parser.kind() {
+        let (kind, heading) = match parser.kind() {
             0 => return Ok(parser.rows),
-            1 => parser.block(&mut codes)?,
+            1 => (1, parser.take_unique(&mut codes)?),
+            // a global block, which has no code
+            12 => (3, parser.take()),
             _ => return parser.refuse(8),
-        }
+        };
+        parser.block(kind, heading)?;
     }
 }
 
@@ -255,9 +258,8 @@ impl<'a> Parser<'a> {
         (7..=11).contains(&self.kind())
     }
 
-    /// A refusal at the next token or the end; `global_` is always 12.
+    /// A refusal at the next token or the end.
     fn refuse<T>(&self, number: u32) -> Result<T, Refusal> {
-        let number = if self.kind() == 12 { 12 } else { number };
         let place = self.tokens.get(self.next).map_or(self.file.len(), |token| token.at);
         Err(Refusal { number, place })
     }
@@ -283,10 +285,10 @@ impl<'a> Parser<'a> {
         self.rows.values.push([name, packet, token]);
     }
 
-    /// A heading, then items, loops and save frames.
-    fn block(&mut self, block_codes: &mut Contents<'a>) -> Result<(), Refusal> {
-        let heading = self.take_unique(block_codes)?;
-        self.rows.sets.push([1, heading, 0]);
+    /// The items, loops and save frames of a data or global block, up to the next
+    /// block or the end.
+    fn block(&mut self, kind: u32, heading: u32) -> Result<(), Refusal> {
+        self.rows.sets.push([kind, heading, 0]);
         let set = self.rows.sets.len() as u32;
         let mut names = HashSet::new();
         let mut frame_codes = HashSet::new();
@@ -295,7 +297,7 @@ impl<'a> Parser<'a> {
                 6 => self.item(set, &mut names)?,
                 4 => self.data_loop(set, &mut names)?,
                 2 => self.frame(set, &mut frame_codes)?,
-                0 | 1 => return Ok(()),
+                0 | 1 | 12 => return Ok(()),
                 _ => return self.refuse(8),
             }
         }
@@ -643,14 +645,29 @@ pub fn find_frame(file: &[u8], tables: Tables<'_>, counts: Counts, set: u32, cod
     first_equal(file, tables, counts, frames.map(|(at, row)| (at, row[1])), code)
 }
 
-/// Finds a name of a set.
+/// Finds a name of a set or, for a data block, of an earlier global block, one after
+/// the other.
 pub fn find_name(file: &[u8], tables: Tables<'_>, counts: Counts, set: u32, name: &[u8]) -> Found {
     if !counts_hold(tables, counts) || !within(set, counts.sets) {
         return Found { refusal: 14, row: 0 };
     }
-    let names = tables.names.chunks_exact(4).take(counts.names as usize).enumerate();
-    let own = names.filter(|(_, row)| row[0] == set);
-    first_equal(file, tables, counts, own.map(|(at, row)| (at, row[1])), name)
+    let of = |set: u32| {
+        let names = tables.names.chunks_exact(4).take(counts.names as usize).enumerate();
+        let own = names.filter(|(_, row)| row[0] == set);
+        first_equal(file, tables, counts, own.map(|(at, row)| (at, row[1])), name)
+    };
+    // choice: the kind word of a set's row decides, whatever its heading and parent
+    let kind = |set: u32| tables.sets[3 * (set as usize - 1)];
+    let mut answer = of(set);
+    if kind(set) == 1 {
+        for earlier in (1..set).rev().filter(|&earlier| kind(earlier) == 3) {
+            if answer.refusal != 13 {
+                break;
+            }
+            answer = of(earlier);
+        }
+    }
+    answer
 }
 
 /// The k-th value of a name row: kind, packet and part, or the refusal.
@@ -711,7 +728,7 @@ pub fn value_number(
 #[cfg(test)]
 mod tests {
     use super::*;
-    use crate::notation::{checked_vectors, escaped, unescaped, vectors};
+    use crate::notation::{checked_vectors, escaped, name_vectors, unescaped, vectors, NameVector};
 
     const ROOM: [usize; 5] = [600; 5];
 
@@ -729,6 +746,18 @@ mod tests {
     fn vectors_are_answered() {
         answer_vectors("base.txt", include_str!("../../vectors/base.txt"), 130);
         answer_vectors("102.txt", include_str!("../../vectors/102.txt"), 30);
+        answer_vectors("105.txt", include_str!("../../vectors/105.txt"), 38);
+    }
+
+    #[test]
+    fn vectors_of_lookups_are_answered() {
+        let list = name_vectors(include_str!("../../vectors/105-names.txt"));
+        assert_eq!(list.len(), 252);
+        for NameVector { line, file, set, name, answer } in list {
+            let (reading, tables) = read(&file, ROOM);
+            let found = find_name(&file, Tables::of(&tables), reading.counts(), set, &name);
+            assert_eq!(found, answer, "line {line}: {} {set}", escaped(&file));
+        }
     }
 
     #[test]
@@ -776,7 +805,6 @@ mod tests {
             ("data_a/_x/;p/;q", 6, 10),
             ("data_a _x 'a", 5, 10),
             ("data_a data_a", 9, 7),
-            ("global_", 12, 0),
         ];
         for (file, number, place) in known {
             let file = file.replace('/', "\n");
@@ -787,6 +815,7 @@ mod tests {
     #[test]
     fn known_files_are_accepted() {
         assert_eq!(answer(b""), Ok([0; 5]));
+        assert_eq!(answer(b"global_"), Ok([1, 1, 0, 0, 0]));
         let full = b"data_a\nloop_\n_x\nloop_\n_y\n1 2 3 stop_ 4 stop_\n";
         assert_eq!(full.len(), 45);
         assert_eq!(answer(full), Ok([11, 1, 2, 4, 4]));
@@ -797,6 +826,34 @@ mod tests {
         let plain = b"data_a\nloop_\n_x\nloop_\n_y\n1\n2\n3\nstop_\n4\nstop_\n";
         assert_eq!(write(full, ROOM, plain.len()).2, plain);
         assert_eq!(write(b"data_a _x ;b", ROOM, 14).2, b"data_a\n_x\n ;b\n");
+    }
+
+    /// `global_` stands where a block heading may, and is refused where one is.
+    #[test]
+    fn known_global_blocks_are_read() {
+        for (file, answered) in [
+            ("global_ global_", Ok([2, 2, 0, 0, 0])),
+            ("data_a loop_ _x 1 global_", Ok([5, 2, 1, 1, 1])),
+            ("data_a loop_ _x loop_ _y 1 stop_ global_ _x 3", Ok([10, 2, 3, 1, 2])),
+            ("global_ save_f _x 1 save_ _x 2", Ok([7, 2, 2, 0, 2])),
+            ("global_ _x 1 _x 2", Err((9, 13))),
+            ("global_ save_f save_ save_f save_", Err((9, 21))),
+            ("data_a global_ data_a", Err((9, 15))),
+            ("data_a save_f global_", Err((8, 14))),
+            ("data_a _x global_", Err((8, 10))),
+            ("data_a loop_ global_", Err((8, 13))),
+            ("data_a loop_ _x global_", Err((8, 16))),
+            ("data_a loop_ _x _y 1 global_", Err((10, 21))),
+            ("data_a loop_ _x loop_ _y 1 global_", Err((10, 27))),
+            ("global_ 1", Err((8, 8))),
+            ("global_x", Err((3, 0))),
+        ] {
+            assert_eq!(answer(file.as_bytes()), answered, "{file}");
+        }
+        let file = b"data_a save_f save_ global_ save_f save_";
+        let (_, tables) = read(file, words_needed(file));
+        assert_eq!(tables[1], [1, 1, 0, 2, 2, 1, 3, 4, 0, 2, 5, 3]);
+        assert_eq!(tables[0][9..12], [12, 20, 27]);
     }
 
     /// The only value of `data_a _x` and what follows.
@@ -1046,5 +1103,41 @@ mod tests {
         assert_eq!(value_span(cut, tables, counts, 2, 1), Part { start: 0, end: 0 });
         let refused = ValueNumber { refusal: 14, form: 0, value: 0.0, uncertainty: 0.0 };
         assert_eq!(value_number(cut, tables, counts, 2, 1), refused);
+    }
+
+    /// In any tables the kind word of a set's row says whether its lookup goes on
+    /// and whether one comes to it.
+    #[test]
+    fn kinds_of_sets_are_taken_as_they_are() {
+        let file = b"global_ _x 1 global_ _x 2 _y 3 data_a _z 4 global_ _w 5";
+        let (answer, tables) = read(file, ROOM);
+        let counts = answer.counts();
+        let asked = |tables: &[Vec<u32>; 5], set: u32, name: &[u8]| {
+            let Found { refusal, row } = find_name(file, Tables::of(tables), counts, set, name);
+            (refusal, row)
+        };
+        for (name, found) in [("_x", (0, 2)), ("_y", (0, 3)), ("_z", (0, 4)), ("_w", (13, 0))] {
+            assert_eq!(asked(&tables, 3, name.as_bytes()), found, "{name}");
+        }
+        // a set that is asked, and one on the way, of another kind; heading and parent do not count
+        for kind in [0, 2, 3, 4, 257, 259, u32::MAX] {
+            let mut other = tables.clone();
+            other[1][6] = kind;
+            assert_eq!(asked(&other, 3, b"_x"), (13, 0), "{kind}");
+            let mut other = tables.clone();
+            other[1][3..6].copy_from_slice(&[kind, 0, 7]);
+            let found = if kind == 3 { (0, 2) } else { (0, 1) };
+            assert_eq!(asked(&other, 3, b"_x"), found, "{kind}");
+            assert_eq!(asked(&other, 2, b"_x"), (0, 2), "{kind}");
+        }
+        // a row of the nearest that points outside, after the name and before it
+        for (row, x, y) in [(3, (0, 2), (14, 0)), (2, (14, 0), (14, 0)), (1, (0, 2), (0, 3))] {
+            let mut spoiled = tables.clone();
+            spoiled[2][4 * (row - 1) + 1] = 0;
+            assert_eq!(asked(&spoiled, 3, b"_x"), x, "{row}");
+            assert_eq!(asked(&spoiled, 3, b"_y"), y, "{row}");
+            assert_eq!(asked(&spoiled, 3, b"_z"), (0, 4), "{row}");
+            assert_eq!(asked(&spoiled, 3, b"_w"), (14, 0), "{row}");
+        }
     }
 }

@@ -6,19 +6,19 @@ use lib.ListN.{length}
 use Rattle.star_grammar.specs.Machine.{inBlock, setOf, within}
 use Rattle.star_parse.specs.Parsed.{fourTables}
 use Rattle.star_parse.specs.Reader.{Bounds, Leads}
-use Rattle.star_parse.proofs.Ahead.{ahead-is}
+use Rattle.star_parse.proofs.Ahead.{ahead-is, headed-token}
 use Rattle.star_parse.proofs.Going.{comes, stays, onto, over-block, closes}
 use Rattle.star_parse.proofs.read_block.Statement.{statement}
 use Rattle.star_parse.proofs.read_block.Tie as tie
 
 abbrev Inv-loop : tie.InvT-loop
-Inv-loop tokens count sets₀ names₀ packets₀ values₀ p₀ block sets names packets values p =
+Inv-loop tokens count kind sets₀ names₀ packets₀ values₀ p₀ block sets names packets values p =
     Bounds count tokens p × (p₀ .at ≤ p .at) × (length sets ≡ length sets₀) × (length names ≡ length names₀) × (length packets ≡ length packets₀)
     × (length values ≡ length values₀)
     × Leads count tokens (within (inBlock block)) p₀ (fourTables sets₀ names₀ packets₀ values₀) (within (inBlock block)) p (fourTables sets names packets values)
 
 abbrev μ-loop : tie.MeasureT-loop
-μ-loop tokens count sets₀ names₀ packets₀ values₀ p₀ block sets names packets values p = count - p .at
+μ-loop tokens count kind sets₀ names₀ packets₀ values₀ p₀ block sets names packets values p = count - p .at
 
 -- from where the entries are read: the turn and its test, the block's row, and the beginning
 abbrev test : tie.After-read-entries Inv-loop μ-loop → tie.Then1 Inv-loop μ-loop
@@ -44,13 +44,13 @@ abbrev came-back : tie.After-slice-known12 Inv-loop μ-loop → tie.After-read-e
 came-back c = c .before .before .before .before .before .before .before .before .before .before .before .before .before .before .before .before .before .before .before .before .before .before .before
 
 put-set-requires : tie.Need-put-set-requires Inv-loop μ-loop
-put-set-requires c κs = omega (arith, c .before .before .before .before .before .before .pre)
+put-set-requires c κs = omega (arith, c .before .before .before .before .before .before .pre .0, headed-token (c .before .before .before .before .before .before .pre .1))
 
 loop-holds : tie.Need-loop-holds Inv-loop μ-loop
 loop-holds c =
     let s = c .before .before .before .before .before .before .before .before .before in
     let set = c .before .before .put-set in (
-      omega (arith, s .pre, set .ensures),
+      omega (arith, s .pre .0, headed-token (s .pre .1), set .ensures),
       omega arith,
       refl,
       refl,
@@ -85,7 +85,7 @@ returns c =
       goes = λ before outcome a.
           stays _ _ _ (c .if2 .taken)
           (own .ensures .0 .goes (inBlock (opened (refused-at c) .put-set .result .sets)) _ refl before outcome
-          (l .inv .6 before outcome (over-block _ _ _ a (start (refused-at c) .pre .1 .is) (opened (refused-at c) .put-set .ensures)) .goes (test (refused-at c) .if1 .taken)));
+          (l .inv .6 before outcome (over-block _ _ _ _ _ a (start (refused-at c) .pre .1) (opened (refused-at c) .put-set .ensures)) .goes (test (refused-at c) .if1 .taken)));
     }
 
 sort-at-requires : tie.Need-sort-at-requires Inv-loop μ-loop
@@ -116,7 +116,7 @@ returns-2 c =
       goes = λ before outcome a.
           onto _ _ _ (λ k. closes _ _ _ k (λ h. c .if3 .taken (e ∙ h)) (none .loop) (none .name))
           (own .ensures .0 .goes (inBlock (opened (closed-at c) .put-set .result .sets)) _ refl before outcome
-          (l .inv .6 before outcome (over-block _ _ _ a (start (closed-at c) .pre .1 .is) (opened (closed-at c) .put-set .ensures)) .goes (test (closed-at c) .if1 .taken)));
+          (l .inv .6 before outcome (over-block _ _ _ _ _ a (start (closed-at c) .pre .1) (opened (closed-at c) .put-set .ensures)) .goes (test (closed-at c) .if1 .taken)));
     }
 
 read-frame-requires : tie.Need-read-frame-requires Inv-loop μ-loop
@@ -165,7 +165,7 @@ returns-3 c =
       bounds = l .inv .0;
       further = omega (arith, c .before .before .before .before .before .put-set .ensures, l .inv .1);
       goes = λ before outcome a.
-          stays _ _ _ (c .if1 .left) (l .inv .6 before outcome (over-block _ _ _ a (c .before .before .before .before .before .before .before .before .before .before .before .before .pre .1 .is) (c .before .before .before .before .before .put-set .ensures)));
+          stays _ _ _ (c .if1 .left) (l .inv .6 before outcome (over-block _ _ _ _ _ a (c .before .before .before .before .before .before .before .before .before .before .before .before .pre .1) (c .before .before .before .before .before .put-set .ensures)));
     }
 
 pub read-block-spec : {M : Type 1} → statement M

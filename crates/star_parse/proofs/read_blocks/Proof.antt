@@ -8,7 +8,7 @@ use Rattle.star_grammar.specs.Tables.{noRows}
 use Rattle.star_grammar.specs.Machine.{start, run}
 use Rattle.star_parse.specs.Parsed.{kindTokens, fourTables}
 use Rattle.star_parse.specs.Reader.{Bounds, Comes}
-use Rattle.star_parse.proofs.Ahead.{ahead-is, at-end, refusal-some}
+use Rattle.star_parse.proofs.Ahead.{at-end, headed, headless}
 use Rattle.star_parse.proofs.Counted.{matches-none}
 use Rattle.star_parse.proofs.Refusing.{start-refuses}
 use Rattle.star_parse.proofs.Going.{comes, refused, whole-refused, accepts}
@@ -75,50 +75,55 @@ returns c =
       refuses = λ n. absurd (n (c .before .before .if1 .taken));
     }
 
+block-kind-requires : tie.Need-block-kind-requires Inv-loop μ-loop
+block-kind-requires c κs = tt
+
 misplaced-requires : tie.Need-misplaced-requires Inv-loop μ-loop
 misplaced-requires c κs = tt
 
 same-length-5 : tie.Need-same-length-5 Inv-loop μ-loop
-same-length-5 c = c .before .before .before .before .before .before .loop .inv .1
+same-length-5 c = c .before .before .before .before .before .before .before .loop .inv .1
 
 same-length-6 : tie.Need-same-length-6 Inv-loop μ-loop
-same-length-6 c = c .before .before .before .before .before .before .loop .inv .2
+same-length-6 c = c .before .before .before .before .before .before .before .loop .inv .2
 
 same-length-7 : tie.Need-same-length-7 Inv-loop μ-loop
-same-length-7 c = c .before .before .before .before .before .before .loop .inv .3
+same-length-7 c = c .before .before .before .before .before .before .before .loop .inv .3
 
 same-length-8 : tie.Need-same-length-8 Inv-loop μ-loop
-same-length-8 c = c .before .before .before .before .before .before .loop .inv .4
+same-length-8 c = c .before .before .before .before .before .before .before .loop .inv .4
 
 returns-2 : tie.Need-returns-2 Inv-loop μ-loop
 returns-2 c =
-    let l = c .before .before .before .before .before .before .loop in
-    let e = c .before .before .before .sort-at .ensures .is in
-    whole-refused _ _ _ _ (λ z. omega (arith, c .misplaced .ensures .refusal, refusal-some 8 (c .before .before .before .sort-at .result) (omega arith)))
-    (refused _ _ _ {to = start} 8 _ (omega arith) (l .inv .5 .goes (c .before .before .before .before .if1 .taken)) e
-    (start-refuses _ (λ h. c .before .before .if2 .left (e ∙ h)) (λ h. c .before .if3 .taken (e ∙ h))) (c .misplaced .ensures))
+    let l = c .before .before .before .before .before .before .before .loop in
+    let e = c .before .before .before .before .sort-at .ensures .is in
+    let none = headless _ (sym (c .before .before .block-kind .ensures) ∙ c .before .if3 .taken) in
+    whole-refused _ _ _ _ (λ z. omega (arith, c .misplaced .ensures .refusal))
+    (refused _ _ _ {to = start} 8 (omega arith) (l .inv .5 .goes (c .before .before .before .before .before .if1 .taken))
+    (start-refuses _ (λ h. c .before .before .before .if2 .left (e ∙ h)) (λ h. none .0 (e ∙ h)) (λ h. none .1 (e ∙ h))) (c .misplaced .ensures))
 
 read-block-requires : tie.Need-read-block-requires Inv-loop μ-loop
 read-block-requires c κs =
     let at-if3 = c .before .before .before .before in
-    let at-sort-at = at-if3 .before .before in
+    let at-kind = at-if3 .before in
+    let at-sort-at = at-kind .before .before in
     let at-if1 = at-sort-at .before in
     let at-loop = at-if1 .before .before in
-    (record { going = at-if1 .if1 .taken; bounds = at-loop .loop .inv .0 }, ahead-is _ _ _ _ _ (at-sort-at .sort-at .ensures) (at-if3 .if3 .left) (omega arith))
+    (record { going = at-if1 .if1 .taken; bounds = at-loop .loop .inv .0 }, headed _ _ _ _ _ (at-sort-at .sort-at .ensures) (at-kind .block-kind .ensures) (at-if3 .if3 .left))
 
 loop-less : tie.Need-loop-less Inv-loop μ-loop
 loop-less c = omega (arith, c .before .before .before .before .before .before .before .before .read-block .ensures .bounds, c .before .before .before .before .before .before .before .before .read-block .ensures .further)
 
 loop-again : tie.Need-loop-again Inv-loop μ-loop
 loop-again c =
-    let l = c .before .before .before .before .before .before .before .before .before .before .before .before .before .before .before .before .before .before .loop in
+    let l = c .before .before .before .before .before .before .before .before .before .before .before .before .before .before .before .before .before .before .before .loop in
     let v = c .before .before .before .before .before .before .before .before .read-block in (
       v .ensures .bounds,
-      v .kept .1 .1 .1 .0 ∙ l .inv .1,
-      v .kept .1 .1 .1 .1 .0 ∙ l .inv .2,
-      v .kept .1 .1 .1 .1 .1 .0 ∙ l .inv .3,
-      v .kept .1 .1 .1 .1 .1 .1 .0 ∙ l .inv .4,
-      v .ensures .goes _ _ (l .inv .5 .goes (c .before .before .before .before .before .before .before .before .before .before .before .before .before .before .before .before .if1 .taken)),
+      v .kept .1 .1 .1 .1 .0 ∙ l .inv .1,
+      v .kept .1 .1 .1 .1 .1 .0 ∙ l .inv .2,
+      v .kept .1 .1 .1 .1 .1 .1 .0 ∙ l .inv .3,
+      v .kept .1 .1 .1 .1 .1 .1 .1 .0 ∙ l .inv .4,
+      v .ensures .goes _ _ (l .inv .5 .goes (c .before .before .before .before .before .before .before .before .before .before .before .before .before .before .before .before .before .if1 .taken)),
     )
 
 same-length-9 : tie.Need-same-length-9 Inv-loop μ-loop
@@ -150,6 +155,7 @@ read-blocks-spec =
     same-length-3
     same-length-4
     returns
+    block-kind-requires
     misplaced-requires
     same-length-5
     same-length-6

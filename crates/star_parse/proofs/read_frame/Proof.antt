@@ -121,9 +121,9 @@ returns-3 c =
       bounds = omega (arith, own .ensures .0 .bounds, c .misplaced .ensures);
       further = omega (arith, set .ensures, own .ensures .0 .further, c .misplaced .ensures);
       goes = λ before outcome a.
-          refused _ _ _ 8 _ (omega arith)
+          refused _ _ _ 8 (omega arith)
           (own .ensures .0 .goes (inFrame (s .args .block) (set .result .sets)) _ refl before outcome (over-frame _ _ _ a (s .pre .1 .is) (set .ensures)) .goes
-          (c .before .before .before .if1 .left)) e
+          (c .before .before .before .if1 .left))
           (frame-refuses (s .args .block) (set .result .sets) _ (λ h. c .before .if2 .left (e ∙ h)) (none .loop) (none .name)) (c .misplaced .ensures);
     }
 

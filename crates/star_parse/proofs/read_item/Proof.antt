@@ -52,7 +52,7 @@ returns-2 c =
       bounds = omega (arith, s .pre, name .ensures, c .misplaced .ensures);
       further = omega (arith, name .ensures, c .misplaced .ensures);
       goes = λ w sets packets q before outcome a.
-          refused _ _ _ 8 _ (omega arith) (over-name _ _ _ a q (s .pre .1 .is) (name .ensures)) e
+          refused _ _ _ 8 (omega arith) (over-name _ _ _ a q (s .pre .1 .is) (name .ensures))
           (named-refuses w _ (λ h. c .before .if1 .left (e ∙ h))) (c .misplaced .ensures);
     }
 

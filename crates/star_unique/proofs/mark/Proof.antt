@@ -1,5 +1,5 @@
 -- `mark` meets its contract: the tokens passed repeat nothing, and are marked.
-use mathlib.Core.Path.{_≡_, refl, _∙_}
+use mathlib.Core.Path.{_≡_, refl, sym, _∙_}
 use Prim.Native.Nat.{_-_}
 use native.Mathlib.Omega.{arith}
 use borrow.Author.Needs.{needs}
@@ -28,6 +28,9 @@ mul-kind-2 c = omega (arith, room-here _ _ _ _ (c .before .loop .inv .0 .marks) 
 slice-read-kind : tie.Need-slice-read-kind Inv-loop μ-loop
 slice-read-kind c = omega (arith, room-here _ _ _ _ (c .before .before .loop .inv .0 .marks) (omega arith), count-small _ _ _ (c .before .before .before .before .before .before .pre .0))
 
+is-value-requires : tie.Need-is-value-requires Inv-loop μ-loop
+is-value-requires c κs = tt
+
 add-n : tie.Need-add-n Inv-loop μ-loop
 add-n c = omega arith
 
@@ -36,23 +39,23 @@ loop-less c = omega arith
 
 loop-again : tie.Need-loop-again Inv-loop μ-loop
 loop-again c =
-    let at = c .before .before .before .loop in
-    (between-value _ _ _ _ _ _ (at .inv .0) (omega arith) (c .if1 .taken), at .inv .1, at .inv .2)
+    let at = c .before .before .before .before .loop in
+    (between-value _ _ _ _ _ _ (at .inv .0) (omega arith) (sym (c .before .is-value .ensures) ∙ c .if1 .taken), at .inv .1, at .inv .2)
 
 visit-requires : tie.Need-visit-requires Inv-loop μ-loop
 visit-requires c κs =
-    let at = c .before .before .before .before .before .loop .inv .0 in
+    let at = c .before .before .before .before .before .before .loop .inv .0 in
     (at .marks, (at .lasts, (omega arith, at .scope)))
 
 same-length : tie.Need-same-length Inv-loop μ-loop
-same-length c = c .before .before .before .before .before .visit .kept .1 .0 ∙ c .before .before .before .before .before .before .before .before .before .before .before .loop .inv .1
+same-length c = c .before .before .before .before .before .visit .kept .1 .0 ∙ c .before .before .before .before .before .before .before .before .before .before .before .before .loop .inv .1
 
 same-length-2 : tie.Need-same-length-2 Inv-loop μ-loop
-same-length-2 c = c .before .before .before .before .before .visit .kept .1 .1 .1 .0 ∙ c .before .before .before .before .before .before .before .before .before .before .before .loop .inv .2
+same-length-2 c = c .before .before .before .before .before .visit .kept .1 .1 .1 .0 ∙ c .before .before .before .before .before .before .before .before .before .before .before .before .loop .inv .2
 
 returns : tie.Need-returns Inv-loop μ-loop
 returns c =
-    let at = c .before .before .before .before .before .before .before .before .before .before .before .loop in
+    let at = c .before .before .before .before .before .before .before .before .before .before .before .before .loop in
     let v = visited-taken _ _ _ _ _ _ (c .before .before .before .before .before .visit .ensures) (c .if2 .taken) in
     (between-taken _ _ _ _ _ _ (at .inv .0) (omega arith) (v .0), v .1)
 
@@ -67,7 +70,7 @@ loop-less-2 c = omega arith
 
 loop-again-2 : tie.Need-loop-again-2 Inv-loop μ-loop
 loop-again-2 c =
-    let at = c .before .before .before .before .before .before .before .before .before .before .before .before .loop in
+    let at = c .before .before .before .before .before .before .before .before .before .before .before .before .before .loop in
     let v = visited-new _ _ _ _ _ _ (c .before .before .before .before .before .before .visit .ensures) (c .before .if2 .left) in (
       rw (c .pass .ensures) (between-next _ _ _ _ _ _ (at .inv .0) (omega arith) _ _ (v .0) (v .1) (v .2)),
       c .before .before .before .before .before .before .visit .kept .1 .0 ∙ at .inv .1,
@@ -93,6 +96,7 @@ mark-spec =
     mul-kind
     mul-kind-2
     slice-read-kind
+    is-value-requires
     add-n
     loop-less
     loop-again

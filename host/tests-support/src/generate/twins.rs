@@ -25,7 +25,7 @@ pub enum Sort {
     BlockCode = 1,
     /// The code of a save frame.
     FrameCode = 2,
-    /// A name in a data block, outside of save frames.
+    /// A name in a data or global block, outside of save frames.
     BlockName = 6,
     /// A name in a save frame.
     FrameName = 13,
@@ -257,7 +257,8 @@ impl Sizes {
 
 /// A file of names and codes whose hashes share bits. All scopes of names have the
 /// same names and all scopes of codes the same codes, each in an order of its own:
-/// a block and its frames, two frames, two blocks. One scope may have a repeat.
+/// a block and its frames, two frames, two blocks, data or global. One scope may
+/// have a repeat.
 pub fn file(rng: &mut Rng, plan: Plan) -> Vec<u8> {
     let shared = Shared::new(rng, plan.sort, plan.bits);
     let mut pool = |sorts: [Sort; 2]| {
@@ -271,7 +272,15 @@ pub fn file(rng: &mut Rng, plan: Plan) -> Vec<u8> {
     let repeat = plan.repeats.then(|| rng.below(sizes.scopes(plan.sort)));
     let mut writer = Writer { rng, sort: plan.sort, repeat, codes, names, file: Vec::new() };
     for code in writer.scope(Sort::BlockCode, sizes.blocks) {
-        writer.block(&code, &sizes);
+        // a global block has no code: it stands before the data block where codes
+        // matter, else in its place
+        let global = writer.rng.once_in(3);
+        if global {
+            writer.block("global_", b"", &sizes);
+        }
+        if !global || plan.sort == Sort::BlockCode {
+            writer.block("data_", &code, &sizes);
+        }
     }
     writer.file
 }
@@ -307,8 +316,8 @@ impl Writer<'_> {
     }
 
     /// A heading, and frames between its names.
-    fn block(&mut self, code: &[u8], sizes: &Sizes) {
-        self.word("data_", code);
+    fn block(&mut self, keyword: &str, code: &[u8], sizes: &Sizes) {
+        self.word(keyword, code);
         let names = self.scope(Sort::BlockName, sizes.block_names);
         let (before, after) = names.split_at(self.rng.below(names.len() + 1));
         self.items(before);

@@ -96,8 +96,8 @@ returns c =
       bounds = omega (arith, level .ensures .ready, c .misplaced .ensures);
       further = omega (arith, c .before .before .before .before .before .before .before .before .before .before .opened .ensures, c .before .before .before .before .before .before .before .before .loop .inv .1, level .ensures .further, c .misplaced .ensures);
       goes = λ w sets q before outcome a.
-          refused _ _ _ 8 _ (omega arith)
-          (rw (c .before .if1 .taken) at (named (c .before .before .before) w sets q before outcome (over-loop _ _ _ a (s .pre .1 .is) (c .before .before .before .before .before .before .before .before .before .before .opened .ensures)))) e
+          refused _ _ _ 8 (omega arith)
+          (rw (c .before .if1 .taken) at (named (c .before .before .before) w sets q before outcome (over-loop _ _ _ a (s .pre .1 .is) (c .before .before .before .before .before .before .before .before .before .before .opened .ensures))))
           (nameless-refuses w _ _ _ (level .ensures .last)) (c .misplaced .ensures);
     }
 
@@ -195,7 +195,7 @@ returns-3 c =
       bounds = omega (arith, level .ensures .ready, c .misplaced2 .ensures);
       further = omega (arith, at-opened .opened .ensures, l .inv .1, level .ensures .further, c .misplaced2 .ensures);
       goes = λ w sets q before outcome a.
-          refused _ _ _ 11 _ (omega arith) (named (at-5) w sets q before outcome (over-loop _ _ _ a (s .pre .1 .is) (at-opened .opened .ensures))) e
+          refused _ _ _ 11 (omega arith) (named (at-5) w sets q before outcome (over-loop _ _ _ a (s .pre .1 .is) (at-opened .opened .ensures)))
           (deepest-refuses w _ _ (level .result .names - l .p .names) _ (omega (arith, at-if1 .if1 .left))
           (omega (arith, outers-length (l .counts) (l .level) 0 (l .inv .3) (l .inv .2), c .before .if3 .taken)) (sym e ∙ c .before .before .if2 .left))
           (c .misplaced2 .ensures);

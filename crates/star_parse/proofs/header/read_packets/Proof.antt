@@ -33,7 +33,7 @@ returns c =
       bounds = omega (arith, stops .ensures .ready, c .misplaced .ensures);
       further = omega (arith, stops .ensures .further, c .misplaced .ensures);
       goes = λ w outer n sets names h before outcome a.
-          refused _ _ _ 8 _ (omega arith) (stops .ensures .goes w (s .args .s .first) outer n _ (h .some) (omega (arith, h .depth)) before outcome a) e
+          refused _ _ _ 8 (omega arith) (stops .ensures .goes w (s .args .s .first) outer n _ (h .some) (omega (arith, h .depth)) before outcome a)
           (closed-refuses w (s .args .s .first) outer n (stops .result .at - s .args .p .at) _ (h .some) (record {
             value = λ q. c .before .if1 .taken (e ∙ q);
             stop = λ q. omega (arith, stops .ensures .last q, h .depth);

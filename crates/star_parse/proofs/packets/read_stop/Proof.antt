@@ -36,7 +36,7 @@ returns-2 c =
       bounds = omega (arith, s .pre .0, c .misplaced .ensures);
       further = omega (arith, c .misplaced .ensures);
       goes = λ w around l outer inner t before outcome a.
-          refused _ _ _ 10 _ (omega arith) a e (open-refuses w around outer l inner _ (s .pre .1) (λ h. c .before .if1 .left (e ∙ h))) (c .misplaced .ensures);
+          refused _ _ _ 10 (omega arith) a (open-refuses w around outer l inner _ (s .pre .1) (λ h. c .before .if1 .left (e ∙ h))) (c .misplaced .ensures);
     }
 
 pub read-stop-spec : {M : Type 1} → statement M

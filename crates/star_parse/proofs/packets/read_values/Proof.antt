@@ -49,8 +49,8 @@ returns c =
       bounds = omega (arith, l .inv .0, c .misplaced .ensures);
       further = omega (arith, l .inv .1, c .misplaced .ensures);
       goes = λ w outer sets names packets before outcome a.
-          not-full _ _ _ w outer (levelOf (s .args .s) (s .args .packet)) (innerOf (s .args .s)) _ _ (l .inv .4 w outer sets names packets before outcome a) (l .inv .2)
-          (c .before .before .before .if1 .taken) (c .before .before .sort-at .ensures .is) (c .before .if2 .taken) (c .misplaced .ensures);
+          not-full _ _ _ w outer (levelOf (s .args .s) (s .args .packet)) (innerOf (s .args .s)) _ (l .inv .4 w outer sets names packets before outcome a) (l .inv .2)
+          (c .before .before .before .if1 .taken) (λ h. c .before .if2 .taken (c .before .before .sort-at .ensures .is ∙ h)) (c .misplaced .ensures);
     }
 
 add-put-value : tie.Need-add-put-value Inv-loop μ-loop

@@ -1,4 +1,4 @@
--- `sort_of` meets its contract: kinds 1 to 6 are sorts of their own, 12 stands for itself, and all others are values.
+-- `sort_of` meets its contract: kinds 1 to 6 and 12 are sorts of their own, and all others are values.
 use mathlib.Core.Path.{sym, ap}
 use Rattle.star_grammar.specs.Machine.{sortOf}
 use Rattle.star_parse.specs.Reader.{sortNumber, numberOf}
@@ -7,7 +7,7 @@ use Rattle.star_parse.proofs.progress.sort_of.Statement.{statement}
 use Rattle.star_parse.proofs.progress.sort_of.Tie as tie
 
 returns : tie.Need-returns
-unfolding numberOf
+unfolding sortOf sortNumber numberOf
 returns c = sym (ap numberOf (c .if1 .taken))
 
 returns-2 : tie.Need-returns-2
