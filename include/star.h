@@ -12,8 +12,8 @@
  *
  *   no.  table    words of a row
  *   1    tokens   kind, start of content, end of content
- *   2    sets     kind (1 data block, 2 save frame, 3 global block), heading token,
- *                 parent set (0 for a data or global block)
+ *   2    sets     kind (1 data block, 2 save frame, 3 global block), token of the
+ *                 heading or of global_, parent set (0 for a data or global block)
  *   3    names    set, name token, loop, level (loop and level 0 for a single item)
  *   4    packets  loop, level, parent packet (0 at level 1)
  *   5    values   name row, packet (0 for a single item), token

@@ -6,7 +6,7 @@ use Rattle.star_lex.proofs.Windows.{windows-splits}
 use Rattle.star_read.proofs.Usable.{today-usable}
 use Rattle.star_read.proofs.Demand1.{read-answers}
 use Rattle.star_read.proofs.Demand3.{accepted-exactly, one-reading, rows-of-reading, place-of-refusal}
-use Rattle.star_read.proofs.RefusalNumber.{refusal-number, numbers-exclude}
+use Rattle.star_read.proofs.RefusalNumber.{refusal-number, numbers-exclude, global-number}
 use Rattle.star_read.proofs.Settled.{reading-settled, one-outcome}
 use Rattle.star_read.proofs.Windows.{windows-reads}
 use Rattle.star_read.proofs.Longest.{old-files-read-as-before, old-bench-refuses, old-bench-same-or-four}
@@ -37,6 +37,7 @@ demand-3 = (
   place-of-refusal,
   refusal-number,
   numbers-exclude,
+  global-number,
   lookup-by-name,
   reading-settled,
   one-outcome,

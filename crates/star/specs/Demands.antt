@@ -5,7 +5,7 @@ use mathlib.Core.Bool.{true}
 use Rattle.star_text.specs.Demands.{CompareEqual, ComparePairs, CompareStops}
 use Rattle.star_lex.specs.Rules.{today, oldBench}
 use Rattle.star_lex.specs.Demands.{NoPairAsBefore, WindowsSplits}
-use Rattle.star_read.specs.Demands.{Usable, AcceptedExactly, OneReading, RowsOfReading, PlaceOfRefusal, RefusalNumber, NumbersExclude, ReadingSettled, OneOutcome, ReadAnswers, WindowsReads, OldFilesReadAsBefore, OldBenchRefuses, OldBenchSameOrFour}
+use Rattle.star_read.specs.Demands.{Usable, AcceptedExactly, OneReading, RowsOfReading, PlaceOfRefusal, RefusalNumber, NumbersExclude, GlobalNumber, ReadingSettled, OneOutcome, ReadAnswers, WindowsReads, OldFilesReadAsBefore, OldBenchRefuses, OldBenchSameOrFour}
 use Rattle.star_find.specs.Demands.{LookupByName, LookupBlock, LookupFrame, ValuesInOrder, SpanPart, LookupsAnswer, ValuesAnswer}
 use Rattle.star_number.specs.Demands.{NumberExact, NumberPieces, WholeExact, PowerExact, RoundedOnce, FloatsFinite, NumbersKnown, NumbersInOrder, NumbersAnswer}
 use Rattle.star_write.specs.Demands.{RoundTrip, WritesAgain, WriteAnswers}
@@ -16,15 +16,15 @@ use Rattle.star_check.specs.Demands.{Fits32, Fits32No, FitsAnswers}
 abbrev pub Demand1 : Type 0
 Demand1 = ReadAnswers × LookupsAnswer × ValuesAnswer × NumbersAnswer × WriteAnswers × FitsAnswers
 
--- an accepted file gives the rows of its reading; blocks, frames and values are found in them, each value as that part of the file; the plain form
+-- an accepted file gives the rows of its reading; data blocks, frames and values are found in them, each value as that part of the file; the plain form
 -- reads back the same, and is written again as the same bytes
 abbrev pub Demand2 : Type 0
 Demand2 = Usable today × RowsOfReading × LookupBlock × LookupFrame × ValuesInOrder × SpanPart × RoundTrip × WritesAgain
 
--- accepted exactly what has a reading; one reading; its tables; the place and number of a refusal, of which one alone holds; lookup by name; and, for
+-- accepted exactly what has a reading; one reading; its tables; the place and number of a refusal, of which one alone holds, and 8 or 10 at `global_`; lookup by name; and, for
 -- any file and any tables, what reading gives, of which there is one
 abbrev pub Demand3 : Type 0
-Demand3 = Usable today × AcceptedExactly × OneReading × RowsOfReading × PlaceOfRefusal × RefusalNumber × NumbersExclude × LookupByName × ReadingSettled
+Demand3 = Usable today × AcceptedExactly × OneReading × RowsOfReading × PlaceOfRefusal × RefusalNumber × NumbersExclude × GlobalNumber × LookupByName × ReadingSettled
     × OneOutcome
 
 -- specification 17: a value is a number exactly when its content is pieces of one, in one way, and is theirs; the floats of digits and powers of ten are without loss, so

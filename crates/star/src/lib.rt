@@ -35,7 +35,7 @@ pub extern "C" fn star_read(
     star_read::read(file, tokens, sets, names, packets, values)
 }
 
-// The first block with this code.
+// The first data block with this code.
 #[no_mangle]
 pub extern "C" fn star_find_block(
     file: &[u8],
@@ -82,7 +82,7 @@ pub extern "C" fn star_find_frame(
     )
 }
 
-// The first name of a set with these bytes.
+// The first name of a set with these bytes or, for a data block, of the nearest earlier global block that does not answer 13.
 #[no_mangle]
 pub extern "C" fn star_find_name(
     file: &[u8],

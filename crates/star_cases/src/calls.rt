@@ -100,7 +100,7 @@ fn look_at_value<'a, 'b>(
     print::escaped(part, part.len());
 }
 
-// Looks up the block, the frame and the name with these bytes and prints what was found.
+// Looks up the data block, the frame and the name with these bytes and prints what was found.
 fn look_for<'a, 'b>(
     file: &'a [u8],
     tokens: &'b [u32],

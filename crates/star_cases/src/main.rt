@@ -7,7 +7,7 @@
 //     write N                 writes the plain form of the last file into N bytes
 //     set T I W               makes word I of table T, counted from 0, be W; words 1 to 5 of table 0 are the five counts, and words 6 to 10 how
 //                             many words of each table are lent
-//     look SET NAME K BYTES   looks for the block, the frame of a set and the name of a set with these bytes, and for the k-th value of a name row
+//     look SET NAME K BYTES   looks for the data block, the frame of a set and the name of a set with these bytes, and for the k-th value of a name row
 //     pairs A B               compares two contents; 1 where they are equal, else 0, and how many pairs of bytes were compared
 //     number KIND CONTENT     takes a content of a kind as a number; the floats are printed by their bits
 //     value NAME K            the k-th value of a name row as a number, in the tables that are lent

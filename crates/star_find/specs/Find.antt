@@ -101,7 +101,7 @@ askOn sets ask set = orElse (ask set) (cond (eqb (wordOf sets setWidth set 0) 1)
 unfoldable pub findName : Lent → Counts → (set : ℕ) → (name : List ℕ) → Found
 findName l c set name = cond (rowThere l c (c .sets) set) (askOn (l .sets) (ownName l c name) set) (refused 14)
 
--- blocks by code
+-- data blocks by code
 unfoldable pub findBlock : Lent → Counts → (code : List ℕ) → Found
 findBlock l c code = cond (countsFit l c) (look l c (l .sets) setWidth 1 false 0 code (c .sets)) (refused 14)
 

@@ -238,7 +238,7 @@ fn seek(
     }
 }
 
-// The first block with this code.
+// The first data block with this code.
 pub fn find_block(
     file: &[u8],
     tokens: &[u32],

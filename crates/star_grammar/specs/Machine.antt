@@ -11,6 +11,7 @@ use Rattle.star_grammar.specs.Tables.{Rows, pass, openLoop, putSet, putN
 pub data Sort : Type 0 where
   block global frame frameEnd loop stop name value : Sort
 
+-- the sort of a kind of token
 unfoldable pub sortOf : ℕ → Sort
 sortOf kind =
     cond (eqb kind 1) block

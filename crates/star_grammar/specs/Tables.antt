@@ -6,7 +6,7 @@ use lib.ListN.{length}
 use Rattle.star_lex.specs.Tokens.{Token}
 use Rattle.star_grammar.specs.Tree.{Inner, Packet, Loop, Entry, item, looped, Frame, Member, own, framed, Block, isGlobal, File}
 
--- sets: kind (1 data block, 2 frame, 3 global block), heading token, parent set (0 for a block)
+-- sets: kind (1 data block, 2 frame, 3 global block), token of the heading or `global_`, parent set (0 for a block)
 pub record SetRow : Type 0 where
   pub kind : ℕ
   pub heading : ℕ
@@ -168,6 +168,7 @@ unfoldable pub putMember : (block : ℕ) → Member → Rows → Rows
 putMember block (own e) r = putEntry block e r
 putMember block (framed f) r = putFrame block f r
 
+-- the kind of a block's set
 unfoldable pub blockKind : Block → ℕ
 blockKind b = cond (isGlobal b) 3 1
 

@@ -134,6 +134,7 @@ pub data IsHeading (t : Token) : Type 0 where
   data-block : t .kind ≡ 1 → IsHeading t
   global-block : t .kind ≡ 12 → IsHeading t
 
+-- a global block begins with `global_`
 unfoldable pub isGlobal : Block → Bool
 isGlobal b = eqb (b .heading .kind) 12
 

@@ -73,7 +73,7 @@ fn put_refused(out: &mut [u8], refusal: u32, place: u32) -> usize
     put_number(out, number, place, b'\n')
 }
 
-// Puts a token's content on a line of its own, if the token is a block's heading.
+// Puts a token's content on a line of its own, if the token is a data block's heading.
 fn put_code(out: &mut [u8], at: usize, kind: u32, content: &[u8]) -> usize
     requires { ⌜ at + length (now content) ≤ 4611686018427387904 ⌝ }
     ensures { λ r. ⌜ PutWithin (codeLine kind (now (content .entry))) at (now (out .entry)) (now (out .exit)) r ⌝ }
@@ -85,7 +85,7 @@ fn put_code(out: &mut [u8], at: usize, kind: u32, content: &[u8]) -> usize
     put_byte(out, end, b'\n')
 }
 
-// Puts the code of each block, in file order. Table 1 of the file is lent.
+// Puts the code of each data block, in file order. Table 1 of the file is lent.
 fn put_codes(out: &mut [u8], file: &[u8], tokens: &[u32], count: usize) -> usize
     requires { ⌜ Holds (now file) (now tokens) count ⌝ }
     ensures { λ r. ⌜ PutWithin (codeLines (fileTokens (now (file .entry)))) 0 (now (out .entry)) (now (out .exit)) r ⌝ }

@@ -55,7 +55,7 @@ pub record NoEntry (count : ℕ) (tokens : List ℕ) (at : ℕ) : Type 0 where
   pub loop : sortAt count tokens at ≡ 4 → ⊥
   pub name : sortAt count tokens at ≡ 6 → ⊥
 
--- the kind of the set that a sort begins where no block is open: 1 a data block, 3 a global block, 0 none
+-- the kind of the block that a sort begins: 1 a data block, 3 a global block, 0 none
 unfoldable pub blockKindOf : (sort : ℕ) → ℕ
 blockKindOf sort = cond (eqb sort 1) 1 (cond (eqb sort 12) 3 0)
 

@@ -104,7 +104,7 @@ fn read_frame(
         (within (inBlock block)) p (fourTables (now (sets .entry)) (now (names .entry)) (now (packets .entry)) (now (values .entry)))
         (within (inBlock block)) r (fourTables (now (sets .exit)) (now (names .exit)) (now (packets .exit)) (now (values .exit)))) ⌝ }
 {
-    let p = progress::put_set(p, progress::FRAME, block, sets);
+    let p = progress::put_set(p, progress::SAVE_FRAME, block, sets);
     let p = read_entries(tokens, count, p.sets, p, names, packets, values);
     if p.refusal != 0 {
         return p;

@@ -28,8 +28,10 @@ pub const VALUE: u32 = 7;
 
 pub const GLOBAL: u32 = 12;
 
-// The kinds of the sets that begin a block: a data block, a global block.
+// The kinds of sets.
 pub const DATA_BLOCK: u32 = 1;
+
+pub const SAVE_FRAME: u32 = 2;
 
 pub const GLOBAL_BLOCK: u32 = 3;
 
@@ -95,7 +97,7 @@ pub(crate) fn sort_at(tokens: &[u32], count: usize, at: u32) -> u32
     }
 }
 
-// The kind of the set that a sort begins where no block is open, 0 where it begins none.
+// The kind of the block that a sort begins, 0 where it begins none.
 pub(crate) fn block_kind(sort: u32) -> u32
     ensures { λ r. ⌜ r ≡ blockKindOf sort ⌝ }
 {

@@ -1,11 +1,26 @@
--- Which of 8 to 11 is given: the number of the first bad token, which is the only one.
-use mathlib.Core.Path.{_≡_, sym, _∙_}
-use mathlib.Core.List.{List, [], _∷_, _++_}
-use Prim.Native.Nat.{ℕ}
-use Rattle.star_lex.specs.Rules.{Rules}
-use Rattle.star_lex.specs.Tokens.{Placed}
+-- Which of 8 to 11 is given: the number of the first bad token, which is the only one. At `global_` it is 8 or 10, since names, codes and levels
+-- decide nothing there.
+use mathlib.Core.Path.{_≡_, refl, sym, _∙_}
+use mathlib.Core.List.{List, [], _∷_, _++_, map-append}
+use mathlib.Core.Logic.{_⊎_, inl, inr}
+use Prim.Native.Nat.{ℕ, _+_}
+use native.Mathlib.Omega.{arith}
+use lib.Seq.{append-snoc}
+use Rattle.star_lex.specs.Rules.{Rules, atLevels}
+use Rattle.star_lex.specs.Tokens.{Token, Placed}
+use Rattle.star_grammar.specs.Tables.{Rows, noRows}
+use Rattle.star_grammar.specs.Machine.{Sort, State, start, within, named, header, body, Step, go, refuse, headerStep, step}
+use Rattle.star_grammar.proofs.Sorts.{sort-global, step-sort}
+use Rattle.star_grammar.proofs.Walking.{Walks, walk-step, halted}
+use Rattle.star_grammar.proofs.Limits.{walk-limit, walks-limit}
+use Rattle.star_unique.specs.Repeat.{nothing}
+use Rattle.star_unique.proofs.Seen.{takesAll}
+use Rattle.star_unique.proofs.Clean.{clean-append}
+use Rattle.star_unique.proofs.Names.{other-taken}
 use Rattle.star_read.specs.Read.{tokensOnly}
-use Rattle.star_read.specs.Demands.{Begins, NumberAt, NumberAtEnd, RefusalNumber, NumbersExclude, Bad}
+use Rattle.star_read.specs.Demands.{Begins, NumberAt, NumberAtEnd, RefusalNumber, NumbersExclude, GlobalNumber, Bad}
+use Rattle.star_read.proofs.Begin.{begins-walks, begins-clean, shape-walks}
+use Rattle.star_read.proofs.FairFile.{part-begins}
 use Rattle.star_read.proofs.Numbers as Numbers
 use Rattle.star_read.proofs.FirstBad.{one-place, begins-part, next-begins}
 use Rattle.star_read.proofs.Demand3.{fair-bad}
@@ -31,3 +46,52 @@ refusal-number rules usable file words ps f n place e = bad-number rules file ps
 
 pub numbers-exclude : NumbersExclude
 numbers-exclude rules = (λ p t m n a b. Numbers.numbers-exclude a b, λ p m n a b. Numbers.end-numbers-exclude a b)
+
+-- a step at `global_` asks for no number of levels
+global-step : (rules : Rules) (more : ℕ) (st : State) (r : Rows) → step (atLevels rules more) st Sort.global r ≡ step rules st Sort.global r
+unfolding step headerStep
+global-step rules more start r = refl
+global-step rules more (within w) r = refl
+global-step rules more (named w) r = refl
+global-step rules more (header w first before n s) r = refl
+global-step rules more (body w outer l inner f) r = refl
+
+-- so where more levels would take it, it is taken
+global-walks : (rules : Rules) (p : List Token) (t : Token) → t .kind ≡ 12 → Walks rules start p noRows → (limit : ℕ)
+    → Walks (atLevels rules limit) start (p ++ (t ∷ [])) noRows → Walks rules start (p ++ (t ∷ [])) noRows
+global-walks rules p t k w limit v = at (step rules (w .0) Sort.global (w .1)) refl
+  where
+    more : ℕ
+    more = limit + rules .levels
+
+    at : (x : Step) → step rules (w .0) Sort.global (w .1) ≡ x → Walks rules start (p ++ (t ∷ [])) noRows
+    at (go s u) e = (s, u, walk-step rules start (w .0) p t noRows (w .1) s u (w .2) (step-sort rules (w .0) (t .kind) (w .1) Sort.global (sort-global t k) ∙ e))
+    at (refuse n) e =
+        absurd (halted (atLevels rules more) start (w .0) p t noRows (w .1) n (walk-limit rules more (omega arith) start (w .0) p noRows (w .1) (w .2))
+        (step-sort (atLevels rules more) (w .0) (t .kind) (w .1) Sort.global (sort-global t k) ∙ global-step rules more (w .0) (w .1) ∙ e)
+        (walks-limit (atLevels rules limit) more (omega arith) start (p ++ (t ∷ [])) noRows v))
+
+pub global-number : GlobalNumber
+global-number rules usable file words ps f n place e p t q i b k kind = at (refusal-number rules usable file words ps f n place e .0 p t q i b k)
+  where
+    row : List Token
+    row = tokensOnly p ++ (t .token ∷ [])
+
+    parts : ps ≡ (p ++ (t ∷ [])) ++ q
+    parts = i ∙ sym (append-snoc p t q)
+
+    -- it would begin a file, since it repeats nothing
+    begins : Walks rules start row noRows → ⊥
+    begins w =
+        k (part-begins rules usable file words ps (f .tokenized) (p ++ (t ∷ [])) q parts (rw map-append w)
+        (rw map-append (clean-append nothing (tokensOnly p) (t .token ∷ []) .1 (
+          begins-clean rules (tokensOnly p) b,
+          (other-taken (takesAll nothing (tokensOnly p)) (t .token) (λ a. omega arith) (λ a. omega arith) (λ a. omega arith), tt),
+        ))))
+
+    at : {m : ℕ} → NumberAt rules (tokensOnly p) (t .token) m → (m ≡ 8) ⊎ (m ≡ 10)
+    at (NumberAt.taken s) = absurd (begins (shape-walks rules row s))
+    at (NumberAt.deep g limit s) =
+        absurd (begins (global-walks rules (tokensOnly p) (t .token) kind (begins-walks rules (tokensOnly p) b) limit (shape-walks (atLevels rules limit) row s)))
+    at (NumberAt.packet g v h) = inr refl
+    at (NumberAt.other g h) = inl refl

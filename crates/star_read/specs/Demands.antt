@@ -131,6 +131,13 @@ NumbersExclude = (rules : Rules)
     → ((p : List Token) (t : Token) (m n : ℕ) → NumberAt rules p t m → NumberAt rules p t n → m ≡ n)
     × ((p : List Token) (m n : ℕ) → NumberAtEnd rules p m → NumberAtEnd rules p n → m ≡ n)
 
+-- a `global_` that is refused is 8 or 10: it has no code that is taken, and opens no level
+abbrev pub GlobalNumber : Type 0
+GlobalNumber = (rules : Rules) → Usable rules → (file : List ℕ) (words : Sizes) (ps : List Placed) → Fair rules file words ps
+    → (n place : ℕ) → readBy rules file words ≡ refused n place
+    → (p : List Placed) (t : Placed) (q : List Placed) → ps ≡ p ++ (t ∷ q) → Begins rules (tokensOnly p)
+    → (Begins rules (tokensOnly (p ++ (t ∷ []))) → ⊥) → t .token .kind ≡ 12 → (n ≡ 8) ⊎ (n ≡ 10)
+
 -- refusal and place where a file has no reading: of the first token that, with those before it, begins no file, or of the file's end
 pub data Bad (rules : Rules) (file : List ℕ) (ps : List Placed) : (number place : ℕ) → Type 0 where
   token : (n : ℕ) (p : List Placed) (t : Placed) (q : List Placed) → ps ≡ p ++ (t ∷ q) → Begins rules (tokensOnly p)

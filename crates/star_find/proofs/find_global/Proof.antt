@@ -1,4 +1,5 @@
 -- `find_global` meets its contract: after each name row the nearest global block that does not answer 13 is kept.
+use mathlib.Core.Path.{_≡_}
 use Prim.Native.Nat.{_-_, _≤_}
 use native.Mathlib.Omega.{arith}
 use borrow.Author.Needs.{needs}
@@ -46,7 +47,8 @@ loop-less-2 c = omega arith
 loop-again-2 : tie.Need-loop-again-2 Inv-loop μ-loop
 loop-again-2 c =
     let at-loop = c .before .before .before .before .before .before .before in
-    (omega arith, turn-none _ _ _ _ (at-loop .loop .inv .1) (c .before .before .row-answer .ensures) (c .if2 .taken))
+    let none : c .before .before .row-answer .result .refusal ≡ 13 = omega (arith, c .if2 .taken) in
+    (omega arith, turn-none _ _ _ _ (at-loop .loop .inv .1) (c .before .before .row-answer .ensures) none)
 
 loop-less-3 : tie.Need-loop-less-3 Inv-loop μ-loop
 loop-less-3 c = omega arith
@@ -58,7 +60,7 @@ loop-again-3 c =
     let at-word = c .before .before .before .before .before in (
       omega arith,
       turn-answer _ _ _ _ (start .args .set) (at-loop .loop .inv .1) (at-word .word .ensures) (c .before .before .before .before .is-nearer .ensures)
-          (not-false _ (c .before .before .before .if1 .left)) (c .before .before .row-answer .ensures) (c .if2 .left),
+          (not-false _ (c .before .before .before .if1 .left)) (c .before .before .row-answer .ensures) (λ q. omega (arith, c .if2 .left, q)),
     )
 
 returns : tie.Need-returns Inv-loop μ-loop

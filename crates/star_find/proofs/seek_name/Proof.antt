@@ -1,4 +1,6 @@
 -- `seek_name` meets its contract: the set is asked first, and after 13 a data block goes on to the global blocks.
+use mathlib.Core.Path.{_≡_}
+use native.Mathlib.Omega.{arith}
 use borrow.Author.Needs.{needs}
 use Rattle.star_find.specs.Find.{refused}
 use Rattle.star_find.proofs.Asking.{on-own, on-other, on-block}
@@ -18,7 +20,7 @@ returns-2 : tie.Need-returns-2
 unfolding refused
 returns-2 c =
     let at-if1 = c .before .before in
-    on-other _ _ _ (at-if1 .before .before .seek .ensures) (at-if1 .if1 .left) (c .before .word .ensures) (c .if2 .taken)
+    on-other _ _ _ (at-if1 .before .before .seek .ensures) (at-if1 .if1 .left) (c .before .word .ensures) (λ q. omega (arith, c .if2 .taken, q))
 
 find-global-requires : tie.Need-find-global-requires
 find-global-requires c κs = search needs
@@ -26,7 +28,8 @@ find-global-requires c κs = search needs
 returns-3 : tie.Need-returns-3
 returns-3 c =
     let at-if1 = c .before .before .before in
-    on-block _ _ _ (at-if1 .before .before .seek .ensures) (at-if1 .if1 .left) (c .before .before .word .ensures) (c .before .if2 .left) (c .find-global .ensures)
+    let block : c .before .before .word .result ≡ 1 = omega (arith, c .before .if2 .left) in
+    on-block _ _ _ (at-if1 .before .before .seek .ensures) (at-if1 .if1 .left) (c .before .before .word .ensures) block (c .find-global .ensures)
 
 pub seek-name-spec : {M : Type 1} → statement M
 seek-name-spec = tie.close (tie.spec seek-requires returns word-requires returns-2 find-global-requires returns-3)

@@ -10,7 +10,7 @@ use Rattle.star_list.proofs.listing.put_code.Tie as tie
 
 returns : tie.Need-returns
 unfolding codeLine
-returns c = rw (ne-eqb _ 1 (c .if1 .taken)) (put-none _ _)
+returns c = rw (ne-eqb (c .before .before .before .args .kind) 1 (λ q. omega (arith, c .if1 .taken, q))) (put-none _ _)
 
 put-bytes-requires : tie.Need-put-bytes-requires
 put-bytes-requires c κs = search needs
