@@ -1,5 +1,6 @@
 # Read by the scripts beside it, which name themselves in $0. Builds the program
 # against libstar.a; sets bench to it and work to a folder for the run alone.
+# entry prints the function of a call, whose instructions are counted.
 #
 # STAR_LIB_DIR names the folder of libstar.a, by default target/staticlib.
 
@@ -16,3 +17,11 @@ cargo build --quiet --release --offline --locked --manifest-path "$here/Cargo.to
 bench=${CARGO_TARGET_DIR:-$here/target}/release/tackturnel-bench
 work=$(mktemp -d)
 trap 'rm -rf "$work"' EXIT
+
+# The walk down a column by its links is a function of the program itself.
+entry() {
+    case $1 in
+        walk) echo 'tackturnel_bench::columns::walk' ;;
+        *) echo "star_$1" ;;
+    esac
+}

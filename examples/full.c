@@ -1,7 +1,8 @@
 /*
  * Reads the full case, specification 15.1, through star.h and prints what came of it:
- * the counts, the five tables, each value of each name, its names compared, a value and a
- * text as numbers, the plain form, and whether its names and codes fit 32 bytes.
+ * the counts, the five tables, each value of each name, the columns walked by their links,
+ * its names compared, a value and a text as numbers, the plain form, and whether its names
+ * and codes fit 32 bytes.
  */
 #include <stdio.h>
 #include <string.h>
@@ -39,8 +40,8 @@ static void print_table(const char *name, const uint32_t *words, uint32_t rows, 
     printf("\n");
 }
 
-/* Finds a name of the block and prints its values, one after the other. */
-static void print_values(star_counts counts, uint32_t block, const char *name)
+/* Finds a name of the block and prints its values, one after the other; answers its row. */
+static uint32_t print_values(star_counts counts, uint32_t block, const char *name)
 {
     star_found found = star_find_name(FILE_RANGE, TABLES, counts, block,
                                       (const uint8_t *)name, strlen(name));
@@ -49,12 +50,31 @@ static void print_values(star_counts counts, uint32_t block, const char *name)
         star_value value = star_value_at(FILE_RANGE, TABLES, counts, found.row, k);
         if (value.refusal != STAR_OK) {
             printf(" then refusal %u\n", (unsigned)value.refusal);
-            return;
+            return found.row;
         }
         star_part part = star_value_part(FILE_RANGE, TABLES, counts, found.row, k);
         printf(" %.*s (kind %u, packet %u)", (int)(part.end - part.start), file + part.start,
                (unsigned)value.kind, (unsigned)value.packet);
     }
+}
+
+/* Walks down the column of a name row, in the tables as the reading left them. */
+static void print_column(star_counts counts, uint32_t name_row)
+{
+    size_t row = 1;
+    while (row <= counts.values && values[(row - 1) * STAR_VALUES_WIDTH] != name_row)
+        row++;
+    if (row > counts.values)
+        row = 0;
+    printf("name row %u by links:", (unsigned)name_row);
+    while (row != 0) {
+        const uint32_t *value = values + (row - 1) * STAR_VALUES_WIDTH;
+        const uint32_t *token = tokens + (size_t)(value[2] - 1) * STAR_TOKENS_WIDTH;
+        printf(" %.*s (value row %u)", (int)(token[2] - token[1]), file + token[1],
+               (unsigned)row);
+        row = value[3];
+    }
+    printf("\n");
 }
 
 int main(void)
@@ -77,16 +97,17 @@ int main(void)
     star_found frame = star_find_frame(FILE_RANGE, TABLES, counts, block.row,
                                        (const uint8_t *)"f", 1);
     printf("frame f: refusal %u, row %u\n", (unsigned)frame.refusal, (unsigned)frame.row);
-    print_values(counts, block.row, "_x");
-    print_values(counts, block.row, "_y");
+    uint32_t x = print_values(counts, block.row, "_x");
+    uint32_t y = print_values(counts, block.row, "_y");
+    print_column(counts, x);
+    print_column(counts, y);
 
     star_compared compared = star_compare((const uint8_t *)"_x", 2, (const uint8_t *)"_y", 2);
     printf("_x and _y: %s, pairs %u\n", compared.equal ? "equal" : "not equal",
            (unsigned)compared.pairs);
 
     /* the second value of _y, and a text with an uncertainty */
-    star_found y = star_find_name(FILE_RANGE, TABLES, counts, block.row, (const uint8_t *)"_y", 2);
-    star_value_number_t second = star_value_number(FILE_RANGE, TABLES, counts, y.row, 2);
+    star_value_number_t second = star_value_number(FILE_RANGE, TABLES, counts, y, 2);
     printf("_y 2 as a number: refusal %u, form %u, value %g\n", (unsigned)second.refusal,
            (unsigned)second.form, second.value);
     star_number number = star_number_of(STAR_TOKEN_WORD, (const uint8_t *)"8.53(1)", 7);

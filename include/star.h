@@ -16,7 +16,8 @@
  *                 heading or of global_, parent set (0 for a data or global block)
  *   3    names    set, name token, loop, level (loop and level 0 for a single item)
  *   4    packets  loop, level, parent packet (0 at level 1)
- *   5    values   name row, packet (0 for a single item), token
+ *   5    values   name row, packet (0 for a single item), token, next value row
+ *                 of the same name (0 after the last)
  *
  * Kinds of tokens: 1 data_ and a code, 2 save_ and a code, 3 save_ alone,
  * 4 loop_, 5 stop_, 6 name, 7 word, 8 $ and a frame code, 9 single-quoted
@@ -31,6 +32,38 @@
  * codes of its frames; both may come again in any other block. A data block
  * takes the names that it does not have from the global blocks before it, the
  * nearest first (star_find_name). Save frames and global blocks take nothing.
+ *
+ * COLUMNS. The values of a name are a column. They stand among those of the
+ * other names, and the fourth word of each value row links it to the next of
+ * its column. So a caller goes down a column in one pass: the first value row
+ * whose first word is the name row, then link by link. An inner level may have
+ * no packets, so that there may be no such row.
+ *
+ *   size_t row = 1;
+ *   while (row <= counts.values && values[(row - 1) * STAR_VALUES_WIDTH] != name_row)
+ *       row++;
+ *   if (row > counts.values)
+ *       row = 0;
+ *   while (row != 0) {
+ *       const uint32_t *value = values + (row - 1) * STAR_VALUES_WIDTH;
+ *       const uint32_t *token = tokens + (size_t)(value[2] - 1) * STAR_TOKENS_WIDTH;
+ *       one_value(file + token[1], file + token[2]);
+ *       row = value[3];
+ *   }
+ *
+ * In tables that a reading, a writing or a check accepted, with its counts, that
+ * visits each value of the name once, in file order, and nothing else. Who does
+ * not know where the tables come from has to check what star_value_at checks:
+ * before, that counts.values and counts.tokens are no more than the rows that
+ * the tables hold; at each link that is not 0, before it is followed, that it is
+ * greater than the number of its own row, so that the walk ends, and no greater
+ * than counts.values, and that the row it leads to has the same first word; at
+ * each value, that its token row is from 1 to counts.tokens, and that the span
+ * does not start after its end or end after the file.
+ *
+ * star_value_at, star_value_part and star_value_number go by the same links, from
+ * the first value on at each call. Asked for the n values of a column one after
+ * the other they follow n * (n - 1) / 2 links, where a walk follows n - 1.
  *
  * LINE ENDS. 13 directly followed by 10 is one line end, and so is each other
  * 10, 12 and 13. A ; at the start of a line or of the file opens a text field,
@@ -56,7 +89,8 @@
  *   10   STAR_INCOMPLETE  packet not full, or inner level not closed        first byte, or the file's length
  *   11   STAR_TOO_DEEP    loop_ that opens level 9                          first byte
  *   13   STAR_NOT_FOUND   not found                                         0
- *   14   STAR_OUTSIDE     a number or row that points outside               0
+ *   14   STAR_OUTSIDE     a number, row or link that points outside, or a   0
+ *                         link to a row not later or not of the same name
  *
  * 12 is not used: readers that do not know global blocks give it at global_.
  *
@@ -166,7 +200,7 @@ enum star_number_form {
 #define STAR_SETS_WIDTH 3
 #define STAR_NAMES_WIDTH 4
 #define STAR_PACKETS_WIDTH 3
-#define STAR_VALUES_WIDTH 3
+#define STAR_VALUES_WIDTH 4
 
 /* The most bytes of a file and of a plain form. */
 #define STAR_MOST_BYTES 1048576
@@ -399,13 +433,17 @@ star_compared star_compare(const uint8_t *a, size_t a_len, const uint8_t *b, siz
 
 /*
  * Finds the k-th value of a name row, k from 1: its token's kind and its
- * packet, both as the tables hold them.
+ * packet, both as the tables hold them. It is the first value row of the name,
+ * and from there k - 1 links on, as above.
  *
  * Refusals: 14 if any of the five counts is larger than its table holds, or
- * the name row is 0 or above the count of names; then 13 if k is 0 or the name
- * row has fewer than k values; then 14 if that value's token row or span
- * points outside as in star_find_block. A refused value answers kind 0 and
- * packet 0.
+ * the name row is 0 or above the count of names; then 13 if k is 0 or there is
+ * no value row of the name; then, at each of the k - 1 links, 13 if it is 0, and
+ * 14 if it is not greater than the number of its own row, is above the count of
+ * values, or leads to a row of another name; then 14 if the k-th value's token
+ * row or span points outside as in star_find_block. The link of the k-th value
+ * and the tokens of those before it are not looked at. A refused value answers
+ * kind 0 and packet 0.
  * Afterwards: all lent memory is as it was.
  */
 star_value star_value_at(const uint8_t *file, size_t file_len,

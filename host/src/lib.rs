@@ -29,4 +29,4 @@ pub mod star;
 pub use raw::{
     Checked, Compared, Counts, Found, Number, Part, Reading, Value, ValueNumber, Written,
 };
-pub use star::{NumberForm, Tables, TablesMut};
+pub use star::{Column, ColumnValue, NumberForm, Tables, TablesMut};

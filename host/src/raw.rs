@@ -29,7 +29,8 @@ pub const STAR_TOO_DEEP: u32 = 11;
 // 12 is not used: readers that do not know global blocks give it at `global_`.
 /// Lookup: not found.
 pub const STAR_NOT_FOUND: u32 = 13;
-/// Lookup: a number or row that points outside.
+/// Lookup: a number, row or link that points outside, or a link to a row that is not
+/// later or not of the same name.
 pub const STAR_OUTSIDE: u32 = 14;
 
 // ----------------------------------------------------------------- kinds
@@ -91,7 +92,7 @@ pub const STAR_NAMES_WIDTH: usize = 4;
 /// The words of a row of packets.
 pub const STAR_PACKETS_WIDTH: usize = 3;
 /// The words of a row of values.
-pub const STAR_VALUES_WIDTH: usize = 3;
+pub const STAR_VALUES_WIDTH: usize = 4;
 /// The most bytes of a file and of a plain form.
 pub const STAR_MOST_BYTES: usize = 1_048_576;
 /// The most bytes of a name, its underscore included, and of a block or frame code:

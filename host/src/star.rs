@@ -20,7 +20,7 @@ pub struct Tables<'a> {
     pub names: &'a [u32],
     /// Loop, level, parent packet.
     pub packets: &'a [u32],
-    /// Name row, packet, token.
+    /// Name row, packet, token, next value row of the same name.
     pub values: &'a [u32],
 }
 
@@ -35,7 +35,7 @@ pub struct TablesMut<'a> {
     pub names: &'a mut [u32],
     /// Loop, level, parent packet.
     pub packets: &'a mut [u32],
-    /// Name row, packet, token.
+    /// Name row, packet, token, next value row of the same name.
     pub values: &'a mut [u32],
 }
 
@@ -311,4 +311,111 @@ pub fn value_number(
     k: u32,
 ) -> ValueNumber {
     look!(star_value_number, file, tables, counts, name_row, k)
+}
+
+/// A value that a walk down a column comes to.
+#[derive(Clone, Copy, Debug, PartialEq, Eq)]
+pub struct ColumnValue<'f> {
+    /// Its row of table 5.
+    pub row: u32,
+    /// The kind of its token, as the tables hold it.
+    pub kind: u32,
+    /// Its packet, as the tables hold it.
+    pub packet: u32,
+    /// Its part of the file.
+    pub part: &'f [u8],
+}
+
+/// A walk down a column; [`column`] begins it.
+#[derive(Clone, Debug)]
+pub struct Column<'f, 't> {
+    file: &'f [u8],
+    tables: Tables<'t>,
+    counts: Counts,
+    name_row: u32,
+    /// The value row that comes next, 0 after the last, or the refusal that comes.
+    next: Result<u32, u32>,
+}
+
+/// The values of a name row, one after the other by their links, in one pass over
+/// the tables. The k-th is what [`value_at`] and [`value_part`] answer for k, and
+/// the walk ends where they answer 13. Where they answer 14 it ends too, after
+/// one `Err` of [`raw::STAR_OUTSIDE`].
+///
+/// ```
+/// use tackturnel::{star, Tables, TablesMut};
+///
+/// let file = b"data_a loop_ _x loop_ _y 1 2 3 stop_ 4 stop_";
+/// let mut tables = star::room(file.len()).map(|words| vec![0; words]);
+/// let counts = star::read(file, TablesMut::of(&mut tables)).counts();
+/// let tables = Tables::of(&tables);
+/// let name = star::find_name(file, tables, counts, 1, b"_x").row;
+/// let values: Result<Vec<_>, u32> = star::column(file, tables, counts, name).collect();
+/// let parts: Vec<_> = values.unwrap().iter().map(|value| value.part).collect();
+/// assert_eq!(parts, [b"1", b"4"]);
+/// ```
+pub fn column<'f, 't>(
+    file: &'f [u8],
+    tables: Tables<'t>,
+    counts: Counts,
+    name_row: u32,
+) -> Column<'f, 't> {
+    let holds = |count: u32, table: &[u32], width: usize| count as usize <= table.len() / width;
+    let inside = holds(counts.tokens, tables.tokens, raw::STAR_TOKENS_WIDTH)
+        && holds(counts.sets, tables.sets, raw::STAR_SETS_WIDTH)
+        && holds(counts.names, tables.names, raw::STAR_NAMES_WIDTH)
+        && holds(counts.packets, tables.packets, raw::STAR_PACKETS_WIDTH)
+        && holds(counts.values, tables.values, raw::STAR_VALUES_WIDTH)
+        && (1..=counts.names).contains(&name_row);
+    let mut column = Column { file, tables, counts, name_row, next: Err(raw::STAR_OUTSIDE) };
+    if inside {
+        let first = (1..=counts.values).find(|&row| column.value_row(row)[0] == name_row);
+        column.next = Ok(first.unwrap_or(0));
+    }
+    column
+}
+
+impl<'f, 't> Column<'f, 't> {
+    /// The words of a value row, which is from 1 to the count.
+    fn value_row(&self, row: u32) -> &'t [u32] {
+        let at = (row as usize - 1) * raw::STAR_VALUES_WIDTH;
+        &self.tables.values[at..at + raw::STAR_VALUES_WIDTH]
+    }
+
+    /// Whether the link of a value row may be followed, or is 0.
+    fn leads_on(&self, row: u32, link: u32) -> bool {
+        link == 0
+            || (row < link
+                && link <= self.counts.values
+                && self.value_row(link)[0] == self.name_row)
+    }
+
+    /// The kind and the part of a token row, if the row and its span are inside.
+    fn token(&self, row: u32) -> Option<(u32, &'f [u8])> {
+        if !(1..=self.counts.tokens).contains(&row) {
+            return None;
+        }
+        let at = (row as usize - 1) * raw::STAR_TOKENS_WIDTH;
+        let words = &self.tables.tokens[at..at + raw::STAR_TOKENS_WIDTH];
+        Some((words[0], self.file.get(words[1] as usize..words[2] as usize)?))
+    }
+}
+
+impl<'f> Iterator for Column<'f, '_> {
+    type Item = Result<ColumnValue<'f>, u32>;
+
+    fn next(&mut self) -> Option<Self::Item> {
+        let row = match std::mem::replace(&mut self.next, Ok(0)) {
+            Ok(0) => return None,
+            Ok(row) => row,
+            Err(refusal) => return Some(Err(refusal)),
+        };
+        let value = self.value_row(row);
+        let (packet, link) = (value[1], value[3]);
+        let Some((kind, part)) = self.token(value[2]) else {
+            return Some(Err(raw::STAR_OUTSIDE));
+        };
+        self.next = if self.leads_on(row, link) { Ok(link) } else { Err(raw::STAR_OUTSIDE) };
+        Some(Ok(ColumnValue { row, kind, packet, part }))
+    }
 }

@@ -294,7 +294,7 @@ fn lookups_in_readings() {
         let mut questions: Vec<_> = (0..20).map(|_| generate::question(rng, &handed)).collect();
         // every name row and every one of its values, and one more
         for row in 0..=handed.counts.names + 1 {
-            let values = handed.tables[4].chunks_exact(3).filter(|value| value[0] == row).count();
+            let values = handed.tables[4].chunks_exact(4).filter(|value| value[0] == row).count();
             for k in 0..=values as u32 + 1 {
                 let more = generate::question(rng, &handed);
                 questions.push(generate::Question { name_row: row, k, ..more });

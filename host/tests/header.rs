@@ -89,6 +89,34 @@ fn layouts() -> [Layout; 10] {
     ]
 }
 
+/// The full case with its tables 1 and 5, and the beginning of a function that walks
+/// down one of its columns. Of each value that it comes to it takes two digits: the
+/// length and the value itself.
+const FULL_CASE: &str = r#"
+static const uint8_t file[] = "data_a\nloop_\n_x\nloop_\n_y\n1 2 3 stop_ 4 stop_\n";
+static const uint32_t tokens[] = {1, 5, 6, 4, 7, 12, 6, 13, 15, 4, 16, 21, 6, 22, 24, 7, 25, 26,
+    7, 27, 28, 7, 29, 30, 5, 31, 36, 7, 37, 38, 5, 39, 44};
+static const uint32_t values[] = {1, 1, 6, 4, 2, 2, 7, 3, 2, 3, 8, 0, 1, 4, 10, 0};
+static const star_counts counts = {11, 1, 2, 4, 4};
+static unsigned long walked;
+
+static void one_value(const uint8_t *start, const uint8_t *end)
+{
+    walked = 100 * walked + 10 * (unsigned long)(end - start) + (unsigned long)(*start - '0');
+}
+
+static unsigned long column(uint32_t name_row)
+{
+"#;
+
+/// The walk down a column that the header shows.
+fn shown_walk() -> String {
+    let (_, after) = HEADER.split_once(" * COLUMNS.").expect("the header speaks of columns");
+    let (text, _) = after.split_once(" * LINE ENDS.").expect("line ends come next");
+    let lines = text.lines().filter_map(|line| line.strip_prefix(" *   "));
+    lines.flat_map(|line| [line, "\n"]).collect()
+}
+
 /// A program that prints one line for each fact, and what it is to print.
 fn program() -> (String, String) {
     let mut facts: Vec<(String, u64)> = Vec::new();
@@ -105,6 +133,9 @@ fn program() -> (String, String) {
             facts.push((format!("sizeof((({name} *)0)->{field})"), size as u64));
         }
     }
+    for (name_row, walked) in [(1, 1114), (2, 1213), (3, 0)] {
+        facts.push((format!("column({name_row})"), walked));
+    }
     facts.push(("compared.equal".to_owned(), true as u64));
     facts.push(("compared.pairs".to_owned(), 18));
     for (at, field) in ["tokens", "sets", "names", "packets", "values"].into_iter().enumerate() {
@@ -118,6 +149,7 @@ fn program() -> (String, String) {
     for (name, _) in ROOM {
         let _ = writeln!(source, "extern char constant_{name}[{name}(0)];");
     }
+    let _ = write!(source, "{FULL_CASE}walked = 0;\n{}return walked;\n}}\n", shown_walk());
     source.push_str(
         "\nint main(void)\n{\n\
          star_reading reading = {1, 2, 3, 4, 5, 6, 7};\n\

@@ -352,7 +352,7 @@ fn numbers_in_readings() {
         // every name row and every one of its values, and one more
         let mut questions = Vec::new();
         for row in 0..=handed.counts.names + 1 {
-            let values = handed.tables[4].chunks_exact(3).filter(|value| value[0] == row).count();
+            let values = handed.tables[4].chunks_exact(4).filter(|value| value[0] == row).count();
             for k in 0..=values as u32 + 1 {
                 questions.push(Question { set: 1, name_row: row, k, sought: Vec::new() });
             }

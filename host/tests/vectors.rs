@@ -37,6 +37,11 @@ fn global_block_vectors_are_answered() {
     answer_vectors("105.txt", include_str!("../vectors/105.txt"), 38);
 }
 
+#[test]
+fn column_vectors_are_answered() {
+    answer_vectors("106.txt", include_str!("../vectors/106.txt"), 9);
+}
+
 /// Answers the vectors of a list of so many.
 fn answer_vectors(name: &str, list: &str, count: usize) {
     let list = vectors(list);
@@ -96,7 +101,8 @@ fn vectors_of_checks_are_answered() {
     }
 }
 
-/// All values of a name in a block or, if it is given, in a frame of it.
+/// All values of a name in a block or, if it is given, in a frame of it: by their
+/// numbers, and the same by their links.
 fn column(file: &str, block: &str, frame: Option<&str>, name: &str) -> Vec<(u32, String)> {
     let file = file.as_bytes();
     let (reading, tables, ..) = answers(file);
@@ -122,6 +128,11 @@ fn column(file: &str, block: &str, frame: Option<&str>, name: &str) -> Vec<(u32,
         let part = star::value_part(file, tables, counts, row, k);
         column.push((value.packet, String::from_utf8_lossy(part).into_owned()));
     }
+    let by_links = star::column(file, tables, counts, row).map(|value| {
+        let value = value.expect("no link leads outside");
+        (value.packet, String::from_utf8_lossy(value.part).into_owned())
+    });
+    assert_eq!(by_links.collect::<Vec<_>>(), column, "{name}");
     column
 }
 
@@ -265,6 +276,13 @@ fn measurement_is_read() {
     assert_eq!(number(block, "_scan_remark", 2), Some(NumberForm::NotApplicable));
     assert_eq!(number(block, "_audit_creation_date", 1), Some(NumberForm::Text));
     assert_eq!(number(block, "_cell_length_a", 2), None);
+    let omega = star::find_name(file.as_bytes(), tables, counts, block, b"_position_omega").row;
+    let omegas = star::column(file.as_bytes(), tables, counts, omega);
+    let omegas: Vec<&[u8]> = omegas.map(|value| value.expect("inside").part).collect();
+    let [first, second, fourth]: [&[u8]; 3] = [b"5.10", b"9.80", b"14.40"];
+    // three positions of the first scan, two of the second, none of the third
+    let expected = [vec![first; 3], vec![second; 2], vec![fourth; 4]].concat();
+    assert_eq!(omegas, expected);
     let kinds: HashSet<u32> = tables.tokens.chunks(3).map(|row| row[0]).collect();
     assert!((1..=11).all(|kind| kinds.contains(&kind)), "{kinds:?}");
     assert!(tables.packets.chunks(3).any(|row| row[1] == 3));

@@ -11,7 +11,7 @@ use Rattle.star_read.proofs.Settled.{reading-settled, one-outcome}
 use Rattle.star_read.proofs.Windows.{windows-reads}
 use Rattle.star_read.proofs.Longest.{old-files-read-as-before, old-bench-refuses, old-bench-same-or-four}
 use Rattle.star_find.proofs.Demand1.{lookups-answer, values-answer, span-part}
-use Rattle.star_find.proofs.Lookup.{lookup-by-name, lookup-block, lookup-frame, values-in-order}
+use Rattle.star_find.proofs.Lookup.{lookup-by-name, lookup-block, lookup-frame, values-in-order, column as links-column}
 use Rattle.star_number.proofs.Exactly.{number-exact, number-pieces}
 use Rattle.star_number.proofs.Exactness.{whole-exact, power-exact, rounded-once}
 use Rattle.star_number.proofs.Finite.{floats-finite}
@@ -20,7 +20,7 @@ use Rattle.star_number.proofs.InOrder.{numbers-in-order, numbers-answer}
 use Rattle.star_write.proofs.Demand1.{write-answers}
 use Rattle.star_write.proofs.RoundTrip.{round-trip, writes-again}
 use Rattle.star_check.proofs.OldBench.{fits-32, fits-32-no, fits-answers}
-use Rattle.star.specs.Demands.{Demand1, Demand2, Demand3, Numbers, LineEnds, Comparisons, LongerNames}
+use Rattle.star.specs.Demands.{Demand1, Demand2, Demand3, Numbers, LineEnds, Comparisons, LongerNames, Columns}
 
 pub demand-1 : Demand1
 demand-1 = (read-answers, lookups-answer, values-answer, numbers-answer, write-answers, fits-answers)
@@ -54,3 +54,6 @@ comparisons = (compare-equal, compare-pairs, compare-stops)
 
 pub longer-names : LongerNames
 longer-names = (refl, refl, old-files-read-as-before, old-bench-refuses, old-bench-same-or-four, fits-32, fits-32-no)
+
+pub column : Columns
+column = links-column

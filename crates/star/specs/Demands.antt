@@ -6,7 +6,7 @@ use Rattle.star_text.specs.Demands.{CompareEqual, ComparePairs, CompareStops}
 use Rattle.star_lex.specs.Rules.{today, oldBench}
 use Rattle.star_lex.specs.Demands.{NoPairAsBefore, WindowsSplits}
 use Rattle.star_read.specs.Demands.{Usable, AcceptedExactly, OneReading, RowsOfReading, PlaceOfRefusal, RefusalNumber, NumbersExclude, GlobalNumber, ReadingSettled, OneOutcome, ReadAnswers, WindowsReads, OldFilesReadAsBefore, OldBenchRefuses, OldBenchSameOrFour}
-use Rattle.star_find.specs.Demands.{LookupByName, LookupBlock, LookupFrame, ValuesInOrder, SpanPart, LookupsAnswer, ValuesAnswer}
+use Rattle.star_find.specs.Demands.{LookupByName, LookupBlock, LookupFrame, ValuesInOrder, Column, SpanPart, LookupsAnswer, ValuesAnswer}
 use Rattle.star_number.specs.Demands.{NumberExact, NumberPieces, WholeExact, PowerExact, RoundedOnce, FloatsFinite, NumbersKnown, NumbersInOrder, NumbersAnswer}
 use Rattle.star_write.specs.Demands.{RoundTrip, WritesAgain, WriteAnswers}
 use Rattle.star_check.specs.Demands.{Fits32, Fits32No, FitsAnswers}
@@ -48,3 +48,8 @@ Comparisons = CompareEqual × ComparePairs × CompareStops
 -- says yes exactly when such a bench accepts the file
 abbrev pub LongerNames : Type 0
 LongerNames = (today .longest ≡ 75) × (oldBench .longest ≡ 32) × OldFilesReadAsBefore × OldBenchRefuses × OldBenchSameOrFour × Fits32 × Fits32No
+
+-- specification 7.5 and 14.13: in the tables of an accepted file the links from the first value row of a name row on lead through each of its value rows once, in file order, and through
+-- nothing else
+abbrev pub Columns : Type 0
+Columns = Column

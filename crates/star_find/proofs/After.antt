@@ -1,5 +1,5 @@
 -- What acceptance leaves: every table holds its rows, so every count fits; each token row has its token's content; and the tokens of all rows are
--- rows of table 1, as the rows are those of the reading.
+-- rows of table 1, and value rows are linked, as the rows are those of the reading.
 use mathlib.Core.Path.{_≡_, sym, _∙_, ap}
 use mathlib.Core.Bool.{true}
 use mathlib.Core.List.{List, [], map, map-map}
@@ -22,6 +22,7 @@ use Rattle.star_grammar.specs.Tables.{Rows, rowsOf, setWords, nameWords, packet
 use Rattle.star_grammar.specs.Tree.{File}
 use Rattle.star_grammar.specs.Reading.{Reading}
 use Rattle.star_grammar.proofs.Widths.{set-wide, name-wide, packet-wide, value-wide}
+use Rattle.star_grammar.proofs.Linked.{Linked, tree-linked}
 use Rattle.star_grammar.proofs.RowsOf.{contentIn, nameIn, setIn, fileNames, fileSets, IsToken, Inside, TreeRows, tree-rows}
 use Rattle.star_lex.specs.Holds.{tokenAt}
 use Rattle.star_lex.proofs.Held.{nowhere, Row, held-row, held-some}
@@ -73,7 +74,7 @@ counts-fit file words ps rows =
       le-leb _ _ (holding-room 3 setWords set-wide (omega arith) (rows .sets) (words .sets)),
       le-leb _ _ (holding-room 4 nameWords name-wide (omega arith) (rows .names) (words .names)),
       le-leb _ _ (holding-room 3 packetWords packet-wide (omega arith) (rows .packets) (words .packets)),
-      le-leb _ _ (holding-room 3 valueWords value-wide (omega arith) (rows .values) (words .values)),
+      le-leb _ _ (holding-room 4 valueWords value-wide (omega arith) (rows .values) (words .values)),
     )
 
 pub row-inside : (count row : ℕ) → 1 ≤ row → row ≤ count → isRow count row ≡ true
@@ -146,6 +147,7 @@ pub record RowsAfter (ps : List Placed) (rows : Rows) (f : File) : Type 0 where
   pub names : map (nameIn (tokensOnly ps)) (rows .names) ≡ fileNames 0 f
   pub sets : map (setIn (tokensOnly ps)) (rows .sets) ≡ fileSets 0 f
   pub inside : Inside (length ps) (rows .sets) (rows .names) (rows .values)
+  pub linked : Linked 1 (rows .values)
 
 pub rows-after : (file : List ℕ) (words : Sizes) (ps : List Placed) (rows : Rows) → readOf file words ≡ accepted (ps, rows)
     → (r : Reading (tokensOnly ps)) → RowsAfter ps rows (r .tree)
@@ -157,4 +159,5 @@ rows-after file words ps rows e r =
       names = rw (r .yield) at (t .names);
       sets = rw (r .yield) at (t .sets);
       inside = rw (r .yield, length-map ps (λ p. p .token)) at (t .inside);
+      linked = tree-linked (r .tree);
     })

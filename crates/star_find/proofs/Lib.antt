@@ -5,6 +5,7 @@ pub mod Seeking
 pub mod Answers
 pub mod Numbered
 pub mod After
+pub mod Links
 pub mod Values
 pub mod Lookup
 pub mod Demand1

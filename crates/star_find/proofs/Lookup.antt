@@ -25,8 +25,9 @@ use Rattle.star_lex.proofs.Each.{each-at}
 use Rattle.star_read.specs.Read.{Sizes, tokensOnly, readOf}
 use Rattle.star_read.proofs.Usable.{today-usable}
 use Rattle.star_read.proofs.Demand3.{rows-of-reading}
+use Rattle.star_read.specs.Answer.{readAnswer, tablesOf}
 use Rattle.star_find.specs.Find.{rowThere, ownName, askGlobals, askOn, findName, findBlock, findFrame, isRow, look, refused}
-use Rattle.star_find.specs.Demands.{contentOf, HoldsName, FirstName, blockKinds, IsKind, EarlierHolds, Reaches, NameOf, LookupByName, SetWith, LookupBlock, HoldsFrame, LookupFrame, ValuesInOrder}
+use Rattle.star_find.specs.Demands.{contentOf, HoldsName, FirstName, blockKinds, IsKind, EarlierHolds, Reaches, NameOf, LookupByName, SetWith, LookupBlock, HoldsFrame, LookupFrame, ValuesInOrder, Column}
 use Rattle.star_find.specs.declared.Found.{Found}
 use Rattle.star_find.proofs.Seeking.{Sought, sought-alike, sought-either, FirstOf, asked, asked-first, asked-parent, look-sought}
 use Rattle.star_find.proofs.Looking.{row-bounds}
@@ -34,7 +35,7 @@ use Rattle.star_find.proofs.Answers.{Answers, place-made, answers}
 use Rattle.star_find.proofs.Asking.{or-first, or-second, NoneAfter, Asked, asked as globals-asked}
 use Rattle.star_find.proofs.Numbered.{holds-name, sets-count, set-kinds, holds-frame, sets-count-codes, block-code, code-block}
 use Rattle.star_find.proofs.After.{left, counted, lent-left, counts-counted, counts-fit, row-inside, content-in, token-content, RowsAfter, rows-after}
-use Rattle.star_find.proofs.Values.{value-found, value-none}
+use Rattle.star_find.proofs.Values.{chain-left, value-found, value-none}
 
 -- no row, which stands where there is none
 abbrev noName : NameRow
@@ -313,4 +314,10 @@ pub values-in-order : ValuesInOrder
 values-in-order file words ps rows e name low high =
     let k : RowsAfter ps rows _ = rows-after file words ps rows e (rows-of-reading today today-usable file words ps rows e .1) in
     rw (lent-left file words ps rows e, counts-counted file words ps rows e)
-    (value-found file words ps rows e (k .inside) name low high, value-none file words ps rows e (k .inside) name low high)
+    (value-found file words ps rows e (k .linked) (k .inside) name low high, value-none file words ps rows e (k .linked) (k .inside) name low high)
+
+pub column : Column
+unfolding tablesOf readAnswer left counted
+column file words ps rows e name =
+    let k : RowsAfter ps rows _ = rows-after file words ps rows e (rows-of-reading today today-usable file words ps rows e .1) in
+    rw e (chain-left file words ps rows (k .linked) name)

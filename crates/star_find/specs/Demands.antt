@@ -8,6 +8,8 @@ use lib.Dec.{eqb}
 use lib.ListN.{length, getD, take, drop}
 use Rattle.star_text.specs.Outcome.{accepted}
 use Rattle.star_text.specs.Names.{key}
+use Rattle.star_rows.specs.Widths.{valueWidth}
+use Rattle.star_rows.specs.Rows.{wordOf}
 use Rattle.star_lex.specs.Tokens.{Placed, opening}
 use Rattle.star_grammar.specs.Tree.{Member, own, framed, Block, File}
 use Rattle.star_grammar.specs.Tables.{Rows, ValueRow, blockKind}
@@ -15,7 +17,7 @@ use Rattle.star_grammar.specs.Reading.{Reading, entryNames, ownNames, frameCode
 use Rattle.star_read.specs.Read.{Sizes, tokensOnly, readOf}
 use Rattle.star_read.specs.Answer.{readAnswer, Tables, tablesOf}
 use Rattle.star_read.specs.declared.Answer.{Answer}
-use Rattle.star_find.specs.Find.{Lent, lent, findName, findBlock, findFrame, valueAt, valuePart, valueSpan}
+use Rattle.star_find.specs.Find.{Lent, lent, findName, findBlock, findFrame, firstValue, valueAt, valuePart, valueSpan}
 use Rattle.star_find.specs.declared.Counts.{Counts}
 use Rattle.star_find.specs.declared.Found.{Found}
 use Rattle.star_find.specs.declared.Value.{Value}
@@ -140,6 +142,22 @@ LookupFrame = (file : List ℕ) (words : Sizes) (ps : List Placed) (rows : Rows)
 unfoldable pub ofName : ℕ → List ValueRow → List ValueRow
 ofName name [] = []
 ofName name (v ∷ vs) = cond (eqb (v .name) name) (v ∷ ofName name vs) (ofName name vs)
+
+-- their numbers, where the rows are numbered from this one on
+unfoldable pub numbersOf : (name number : ℕ) → List ValueRow → List ℕ
+numbersOf name number [] = []
+numbersOf name number (v ∷ vs) = cond (eqb (v .name) name) (number ∷ numbersOf name (suc number) vs) (numbersOf name (suc number) vs)
+
+-- the links of a table of value rows, from a row on, lead through these rows and end there
+pub data Chain (values : List ℕ) : (row : ℕ) → List ℕ → Type 0 where
+  end : Chain values 0 []
+  visit : (row : ℕ) (rows : List ℕ) → 1 ≤ row → Chain values (wordOf values valueWidth row 3) rows → Chain values row (row ∷ rows)
+
+-- in the tables that reading leaves, the links from the first value row of a name row on lead through each of its value rows once, in file order, and
+-- through nothing else
+abbrev pub Column : Type 0
+Column = (file : List ℕ) (words : Sizes) (ps : List Placed) (rows : Rows) → readOf file words ≡ accepted (ps, rows) → (name : ℕ)
+    → Chain (lentAfter file words .values) (firstValue (lentAfter file words .values) name (countsAfter file words .values) 1) (numbersOf name 1 (rows .values))
 
 unfoldable pub tokenKind : List Placed → (row : ℕ) → ℕ
 tokenKind ps row = getD (map (λ p. p .token .kind) ps) (row - 1) 0

@@ -4,11 +4,11 @@ ghost use mathlib.Core.Bool.{false, cond, _&&_};
 ghost use Prim.Native.Nat.{_-_};
 ghost use lib.Dec.{eqb, ltb};
 ghost use denote.Ref.{ptr};
-ghost use Rattle.star_rows.specs.Widths.{tokenWidth, setWidth, nameWidth, valueWidth};
+ghost use Rattle.star_rows.specs.Widths.{tokenWidth, setWidth, nameWidth};
 ghost use Rattle.star_rows.specs.Rows.{wordOf};
 ghost use Rattle.star_lex.specs.Answer.{isSome};
 ghost use Rattle.star_lex.specs.Table.{orEmpty, further};
-ghost use Rattle.star_find.specs.Find.{lent, fits, isRow, contentAt, rowThere, refused, meet, findBlock, findFrame, askGlobals, askOn, findName, isWanted, matchOf, seek as Find·seek, kth, locate as Find·locate, valueAt, valuePart, valueSpan};
+ghost use Rattle.star_find.specs.Find.{lent, fits, isRow, contentAt, rowThere, refused, meet, findBlock, findFrame, askGlobals, askOn, findName, isWanted, matchOf, seek as Find·seek, firstValue, isLink, follow as Find·follow, valueRow, locate as Find·locate, valueAt, valuePart, valueSpan};
 ghost use Rattle.star_find.specs.declared.Match.the-variants.{Other};
 
 // How many rows each table has.
@@ -464,42 +464,81 @@ pub fn find_name(
     }
 }
 
-// Whether a row is the value that is asked for: of this name row, with none left before it.
-fn is_last(values: &[u32], row: u32, name: u32, left: u32) -> bool
-    ensures { λ r. ⌜ r ≡ (eqb (wordOf (now (values .entry)) valueWidth row 0) name && eqb left 1) ⌝ }
+// The first value row of a name row among so many rows, or 0.
+fn first_value(values: &[u32], rows: u32, name: u32) -> u32
+    ensures { λ r. ⌜ r ≡ firstValue (now (values .entry)) name rows 1 ⌝ }
 {
-    if star_rows::word(values, star_rows::VALUE_WIDTH, row, 0) == name {
-        left == 1
-    } else {
-        false
-    }
-}
-
-// How many are left after a row.
-fn left_after(values: &[u32], row: u32, name: u32, left: u32) -> u32
-    ensures { λ r. ⌜ r ≡ cond (eqb (wordOf (now (values .entry)) valueWidth row 0) name) (left - 1) left ⌝ }
-{
-    if star_rows::word(values, star_rows::VALUE_WIDTH, row, 0) == name {
-        if left == 0 { 0 } else { left - 1 }
-    } else {
-        left
-    }
-}
-
-// The row of the k-th value of a name row, or 0.
-fn value_row(values: &[u32], rows: u32, name: u32, k: u32) -> u32
-    ensures { λ r. ⌜ r ≡ kth (λ row. eqb (wordOf (now (values .entry)) valueWidth row 0) name) k rows 1 ⌝ }
-{
-    let mut i: u32 = 0;
-    let mut left = k;
-    while i < rows {
-        if is_last(values, i + 1, name, left) {
-            return i + 1;
+    let mut row: u32 = 0;
+    while row < rows {
+        row += 1;
+        if star_rows::word(values, star_rows::VALUE_WIDTH, row, 0) == name {
+            return row;
         }
-        left = left_after(values, i + 1, name, left);
-        i += 1;
     }
     0
+}
+
+// Whether a link other than 0 leads to a later row within the count, of the same name row.
+fn is_link(values: &[u32], rows: u32, name: u32, row: u32, next: u32) -> bool
+    ensures { λ r. ⌜ r ≡ isLink (now (values .entry)) rows name row next ⌝ }
+{
+    if next <= row {
+        return false;
+    }
+    if rows < next {
+        return false;
+    }
+    star_rows::word(values, star_rows::VALUE_WIDTH, next, 0) == name
+}
+
+// The row that so many links lead to from a row on: 13 at a link of 0, 14 at one that leads elsewhere.
+fn follow(values: &[u32], rows: u32, name: u32, links: u32, row: u32) -> Found
+    ensures { λ r. ⌜ r ≡ Find·follow (now (values .entry)) rows name links row ⌝ }
+{
+    let mut left = links;
+    let mut at = row;
+    while 0 < left {
+        let next = star_rows::word(values, star_rows::VALUE_WIDTH, at, 3);
+        if next == 0 {
+            return Found {
+                refusal: 13,
+                row: 0,
+            };
+        }
+        if !is_link(values, rows, name, at, next) {
+            return Found {
+                refusal: 14,
+                row: 0,
+            };
+        }
+        at = next;
+        left -= 1;
+    }
+    Found {
+        refusal: 0,
+        row: at,
+    }
+}
+
+// The k-th value row of a name row, k from 1: the first, and k - 1 links from there.
+fn value_row(values: &[u32], rows: u32, name: u32, k: u32) -> Found
+    ensures { λ r. ⌜ r ≡ valueRow (now (values .entry)) rows name k ⌝ }
+{
+    if k == 0 {
+        return Found {
+            refusal: 13,
+            row: 0,
+        };
+    }
+    let first = first_value(values, rows, name);
+    if first == 0 {
+        return Found {
+            refusal: 13,
+            row: 0,
+        };
+    }
+    let links = k - 1;
+    follow(values, rows, name, links, first)
 }
 
 // The value that is asked for, by its packet and its token row, or its refusal.
@@ -534,19 +573,19 @@ pub fn locate(
             token: 0,
         };
     }
-    let row = value_row(values, counts.values, name, k);
-    if row == 0 {
+    let found = value_row(values, counts.values, name, k);
+    if found.refusal != 0 {
         return Located {
-            refusal: 13,
+            refusal: found.refusal,
             packet: 0,
             token: 0,
         };
     }
-    let token = star_rows::word(values, star_rows::VALUE_WIDTH, row, 2);
+    let token = star_rows::word(values, star_rows::VALUE_WIDTH, found.row, 2);
     if has_part(file, tokens, counts.tokens, token) {
         Located {
             refusal: 0,
-            packet: star_rows::word(values, star_rows::VALUE_WIDTH, row, 1),
+            packet: star_rows::word(values, star_rows::VALUE_WIDTH, found.row, 1),
             token,
         }
     } else {

@@ -10,7 +10,7 @@ use borrow.Author.Tests.{lt-ltb}
 use Rattle.star_lex.specs.Rules.{Rules}
 use Rattle.star_lex.specs.Tokens.{Token, Each}
 use Rattle.star_grammar.specs.Tree.{IsValue, innerYield, fileYield, frameEnd, loopStart, stop}
-use Rattle.star_grammar.specs.Tables.{Rows, fold, putEntry, putMember, putBlock, putNames, putStops, putValues}
+use Rattle.star_grammar.specs.Tables.{Rows, fold, putEntry, putMember, putBlock, putNames, putStops, putValues, linked}
 use Rattle.star_grammar.specs.Machine.{Sort, Where, inBlock, inFrame, setOf, Level, State, start, within, named, header, body, between, filled, noValue, noValueAt, bodyStep, namedStep, step, Run, good, run}
 use Rattle.star_grammar.proofs.Rest.{Members, InSet, Valued, Filling, Levels, Heading, InBody, Blocks, Rest, SaneHeader, SaneBody, Sane}
 use Rattle.star_grammar.proofs.Counts.{Counts, map-counts}
@@ -26,7 +26,7 @@ Good x = (r : Rows) × (x ≡ good r)
 module _ (rules : Rules) where
   accepts-members : (s : ℕ) (ts : List Token) (r : Rows) → Members rules ts → Good (run rules (within (inBlock s)) ts r)
   accepts-members s ts r m = (
-    fold putBlock (m .blocks) (fold (putMember s) (m .members) r),
+    linked (fold putBlock (m .blocks) (fold (putMember s) (m .members) r)),
     rw (m .yield)
         (members-run rules s (m .members) (fileYield (m .blocks)) r (m .members-whole) (file-no-value rules (m .blocks) (m .blocks-whole))
         ∙ blocks-run rules s (m .blocks) (fold (putMember s) (m .members) r) (m .blocks-whole)),
@@ -134,7 +134,7 @@ module _ (rules : Rules) where
       (omega (arith, p .stops-fit, none .1)) (p .stops-allowed) (rw (en, ed, add-zero n) at (p .counts)) (p .packets))
 
   accepts-blocks : (ts : List Token) (r : Rows) → Blocks rules ts → Good (run rules start ts r)
-  accepts-blocks ts r p = (fold putBlock (p .blocks) r, rw (p .yield) (file-run rules (p .blocks) r (p .whole)))
+  accepts-blocks ts r p = (linked (fold putBlock (p .blocks) r), rw (p .yield) (file-run rules (p .blocks) r (p .whole)))
 
   accepts-value : (w : Where) (ts : List Token) (r : Rows) → Valued (InSet rules w) ts → Good (run rules (named w) ts r)
   unfolding step namedStep

@@ -12,7 +12,7 @@ use borrow.Author.Tests.{lt-ltb, le-ltb}
 use Rattle.star_lex.specs.Rules.{Rules}
 use Rattle.star_lex.specs.Tokens.{Token, Each}
 use Rattle.star_grammar.specs.Tree.{IsValue, IsName, Inner, Packet, innerYield, packetYield, InnerWhole, PacketWhole, Loop, loopYield, LoopBy, Entry, item, looped, entryYield, EntryBy, Frame, frameYield, FrameBy, Member, own, framed, memberYield, MemberBy, Block, blockYield, IsHeading, isGlobal, File, fileYield, FileBy, frameEnd, loopStart, stop}
-use Rattle.star_grammar.specs.Tables.{Rows, noRows, pass, openLoop, putSet, putName, putPacket, putValue, fold, next, putValues, putInner, putPacketTree, putNames, putDeeper, putStops, putLoop, putEntry, putFrame, putMember, blockKind, putBlock, rowsOf}
+use Rattle.star_grammar.specs.Tables.{Rows, noRows, pass, openLoop, putSet, putName, putPacket, putValue, fold, next, putValues, putInner, putPacketTree, putNames, putDeeper, putStops, putLoop, putEntry, putFrame, putMember, blockKind, putBlock, linked, rowsOf}
 use Rattle.star_grammar.specs.Machine.{Sort, sortOf, Where, inBlock, inFrame, setOf, Level, parentOf, start, within, named, header, body, go, between, filled, fill, valueAt, begin, headerStep, noValue, noValueAt, bodyStep, startStep, namedStep, step, stepAt, good, endBetween, endBody, endRun, run}
 use Rattle.star_grammar.proofs.Counts.{Counts, map-counts}
 use Rattle.star_grammar.proofs.Sorts.{OfSort, sort-block, sort-global, sort-frame, sort-name, sort-value, sort-frame-end, sort-loop, sort-stop, onward, run-onward, run-sort, run-go, run-alike}
@@ -426,7 +426,7 @@ start-step rules s t r (IsHeading.global-block e) = rw (sort-global t e)
 
 -- the blocks of a file, after one
 pub blocks-run : (rules : Rules) (s : ℕ) (f : File) (r : Rows) → FileBy rules f
-    → run rules (within (inBlock s)) (fileYield f) r ≡ good (fold putBlock f r)
+    → run rules (within (inBlock s)) (fileYield f) r ≡ good (linked (fold putBlock f r))
 unfolding flatMap blockYield putBlock run endRun endBetween
 blocks-run rules s [] r h = refl
 blocks-run rules s (b ∷ f) r h =
@@ -436,7 +436,7 @@ blocks-run rules s (b ∷ f) r h =
     ∙ blocks-run rules (next (r .sets)) f (putBlock b r) (h .1)
 
 -- the blocks of a file, from its start
-pub file-run : (rules : Rules) (f : File) (r : Rows) → FileBy rules f → run rules start (fileYield f) r ≡ good (fold putBlock f r)
+pub file-run : (rules : Rules) (f : File) (r : Rows) → FileBy rules f → run rules start (fileYield f) r ≡ good (linked (fold putBlock f r))
 unfolding flatMap blockYield run endRun
 file-run rules [] r h = refl
 file-run rules (b ∷ f) r h =

@@ -12,6 +12,8 @@ pub mod Passing
 pub mod Walking
 pub mod Formed
 pub mod Limits
+pub mod Linked
+pub mod Linking
 pub mod Longest
 pub mod Refusals
 pub mod Marks

@@ -8,7 +8,7 @@ use lib.Dec.{eqb, ltb}
 use lib.ListN.{length}
 use Rattle.star_lex.specs.Rules.{Rules}
 use Rattle.star_lex.specs.Tokens.{Token}
-use Rattle.star_grammar.specs.Tables.{Rows, noRows, pass, openLoop, putSet, putName, putPacket, putValue}
+use Rattle.star_grammar.specs.Tables.{Rows, noRows, pass, openLoop, putSet, putName, putPacket, putValue, linked}
 use Rattle.star_grammar.specs.Machine.{Sort, sortOf, Where, inBlock, inFrame, Level, State, start, within, named, header, body, Step, go, refuse, between, fill, valueAt, begin, headerStep, noValue, noValueAt, bodyStep, startStep, namedStep, step, bad, endBetween, endBody, endRun, walk}
 use Rattle.star_grammar.proofs.Sound.{bad-good}
 use Rattle.star_grammar.proofs.Alive.{walk-induction}
@@ -134,12 +134,12 @@ walk-length rules st p r e = omega (arith, walk-passes rules start st p noRows r
 -- an end that is out of place comes after the tokens passed
 pub end-passes : (st : State) (r : Rows) (n i : ℕ) → endRun st r ≡ bad n i → i ≡ r .tokens
 unfolding endRun endBetween endBody
-end-passes start r n i e = absurd (bad-good n i r (sym e))
-end-passes (within (inBlock s)) r n i e = absurd (bad-good n i r (sym e))
+end-passes start r n i e = absurd (bad-good n i (linked r) (sym e))
+end-passes (within (inBlock s)) r n i e = absurd (bad-good n i (linked r) (sym e))
 end-passes (within (inFrame b s)) r n i e = cc
 end-passes (named w) r n i e = cc
 end-passes (header w first before m s) r n i e = cc
-end-passes (body (inBlock s) [] l inner zero) r n i e = absurd (bad-good n i r (sym e))
+end-passes (body (inBlock s) [] l inner zero) r n i e = absurd (bad-good n i (linked r) (sym e))
 end-passes (body (inFrame b s) [] l inner zero) r n i e = cc
 end-passes (body w [] l inner (suc f)) r n i e = cc
 end-passes (body w (o ∷ outer) l inner f) r n i e = cc

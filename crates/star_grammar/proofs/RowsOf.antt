@@ -11,7 +11,7 @@ use lib.Seq.{drop-drop, drop-append-seam, getD-drop}
 use Rattle.star_text.specs.Names.{key}
 use Rattle.star_lex.specs.Tokens.{Token, Each}
 use Rattle.star_grammar.specs.Tree.{Inner, Packet, innerYield, packetYield, Loop, loopYield, Entry, item, looped, entryYield, Frame, frameYield, Member, own, framed, memberYield, Block, blockYield, File, fileYield, frameEnd, loopStart, stop}
-use Rattle.star_grammar.specs.Tables.{SetRow, NameRow, ValueRow, Rows, noRows, pass, openLoop, putSet, putName, putPacket, putValue, fold, next, putValues, putInner, putPacketTree, putNames, putDeeper, putStops, putLoop, putEntry, putFrame, putMember, blockKind, putBlock, rowsOf}
+use Rattle.star_grammar.specs.Tables.{SetRow, NameRow, ValueRow, Rows, noRows, pass, openLoop, putSet, putName, putPacket, putValue, fold, next, putValues, putInner, putPacketTree, putNames, putDeeper, putStops, putLoop, putEntry, putFrame, putMember, blockKind, putBlock, linkTo, linkedFrom, linked, rowsOf}
 use Rattle.star_grammar.specs.Reading.{contents, entryNames, frameCodes}
 
 -- what the token of that row is compared by
@@ -76,6 +76,12 @@ each-last : {A : Type 0} (f : A → ℕ) (n : ℕ) (xs : List A) (y : A) → f y
     → Each (λ x. IsToken (suc n) (f x)) (xs ++ (y ∷ []))
 each-last f n [] y h e = (omega arith, tt)
 each-last f n (x ∷ xs) y h e = ((e .0 .0, omega (arith, e .0 .1)), each-last f n xs y h (e .1))
+
+-- links leave the tokens of value rows as they are
+each-linked : (n number : ℕ) (vs : List ValueRow) → Each (λ x. IsToken n (x .value)) vs → Each (λ x. IsToken n (x .value)) (linkedFrom number vs)
+unfolding linkTo linkedFrom
+each-linked n number [] e = tt
+each-linked n number (v ∷ vs) e = (e .0, each-linked n (suc number) vs (e .1))
 
 -- a token passed, with no row of tables 2, 3 and 5
 inside-more : {n : ℕ} {sets : List SetRow} {names : List NameRow} {values : List ValueRow} → Inside n sets names values
@@ -346,12 +352,18 @@ pub record TreeRows (f : File) : Type 0 where
   pub inside : Inside (length (fileYield f)) (rowsOf f .sets) (rowsOf f .names) (rowsOf f .values)
 
 pub tree-rows : (f : File) → TreeRows f
-unfolding rowsOf noRows
+unfolding rowsOf linked noRows
 tree-rows f =
-    let p : Puts (fileYield f) (fileYield f) (fileNames 0 f) (fileSets 0 f) noRows (rowsOf f)
+    let p : Puts (fileYield f) (fileYield f) (fileNames 0 f) (fileSets 0 f) noRows (fold putBlock f noRows)
     = puts-blocks f 0 noRows refl [] (sym (append-nil (fileYield f))) in
+    let k : Inside (length (fileYield f)) (fold putBlock f noRows .sets) (fold putBlock f noRows .names) (fold putBlock f noRows .values)
+    = rw (p .tokens, zero-add) at (p .inside (record { headings = tt; name-tokens = tt; value-tokens = tt })) in
     record {
       names = p .names-are;
       sets = p .sets-are;
-      inside = rw (p .tokens, zero-add) at (p .inside (record { headings = tt; name-tokens = tt; value-tokens = tt }));
+      inside = record {
+        headings = k .headings;
+        name-tokens = k .name-tokens;
+        value-tokens = each-linked (length (fileYield f)) 1 (fold putBlock f noRows .values) (k .value-tokens);
+      };
     }

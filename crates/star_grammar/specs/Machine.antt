@@ -1,12 +1,12 @@
--- The reader's states and steps over sorts of tokens. For contracts: star_parse's and star_read's. An aid: what is accepted and what the tables hold is said by trees, and no demand cites the machine.
-use mathlib.Core.Bool.{cond, _&&_}
+-- The reader's states and steps over sorts of tokens, and the last value row of a name. For contracts: star_parse's and star_read's. An aid: what is accepted and what the tables hold is said by trees, and no demand cites the machine.
+use mathlib.Core.Bool.{Bool, cond, _&&_}
 use mathlib.Core.List.{List, [], _∷_, reverseAux}
 use Prim.Native.Nat.{ℕ, zero, suc, _+_}
 use lib.Dec.{eqb, ltb}
 use lib.ListN.{length}
 use Rattle.star_lex.specs.Rules.{Rules}
 use Rattle.star_lex.specs.Tokens.{Token}
-use Rattle.star_grammar.specs.Tables.{Rows, pass, openLoop, putSet, putName, putPacket, putValue, next}
+use Rattle.star_grammar.specs.Tables.{ValueRow, Rows, pass, openLoop, putSet, putName, putPacket, putValue, linked, next}
 
 pub data Sort : Type 0 where
   block global frame frameEnd loop stop name value : Sort
@@ -172,9 +172,9 @@ pub data Run : Type 0 where
   bad : (number tokens : ℕ) → Run
   good : Rows → Run
 
--- the end between the entries of a set
+-- the end between the entries of a set: all rows are known, and value rows are linked
 unfoldable pub endBetween : Where → Rows → Run
-endBetween (inBlock s) r = good r
+endBetween (inBlock s) r = good (linked r)
 endBetween (inFrame b s) r = bad 8 (r .tokens)
 
 unfoldable pub endBody : Where → List Level → ℕ → Rows → Run
@@ -183,7 +183,7 @@ endBody w [] (suc f) r = bad 10 (r .tokens)
 endBody w (o ∷ outer) f r = bad 10 (r .tokens)
 
 unfoldable pub endRun : State → Rows → Run
-endRun start r = good r
+endRun start r = good (linked r)
 endRun (within w) r = endBetween w r
 endRun (named w) r = bad 8 (r .tokens)
 endRun (header w first before n s) r = bad 8 (r .tokens)
@@ -197,3 +197,13 @@ run rules st (t ∷ ts) r = elim (stepAt rules st (t .kind) r) [ go s r′ ↦ r
 unfoldable pub walk : (rules : Rules) → State → List Token → Rows → Step
 walk rules st [] r = go st r
 walk rules st (t ∷ ts) r = elim (stepAt rules st (t .kind) r) [ go s r′ ↦ walk rules s ts r′ | refuse n ↦ refuse n ]
+
+-- the number of a row in a list, from whether the first is one and its number in those after the first, 0 for none
+unfoldable pub laterOr : (first : Bool) → (later : ℕ) → ℕ
+laterOr first zero = cond first 1 0
+laterOr first (suc later) = suc (suc later)
+
+-- the number of the last of these value rows that is of a name; 0 where none is
+unfoldable pub lastRow : (name : ℕ) → List ValueRow → ℕ
+lastRow wanted [] = 0
+lastRow wanted (v ∷ vs) = laterOr (eqb (v .name) wanted) (lastRow wanted vs)

@@ -2,6 +2,7 @@
 use mathlib.Core.Bool.{cond}
 use mathlib.Core.List.{List, [], _∷_, _++_, map}
 use Prim.Native.Nat.{ℕ, zero, suc, _+_}
+use lib.Dec.{eqb}
 use lib.ListN.{length}
 use Rattle.star_lex.specs.Tokens.{Token}
 use Rattle.star_grammar.specs.Tree.{Inner, Packet, Loop, Entry, item, looped, Frame, Member, own, framed, Block, isGlobal, File}
@@ -25,11 +26,12 @@ pub record PacketRow : Type 0 where
   pub level : ℕ
   pub parent : ℕ
 
--- values: name row, packet (0 for a single item), token
+-- values: name row, packet (0 for a single item), token, next value row of the same name (0 after the last)
 pub record ValueRow : Type 0 where
   pub name : ℕ
   pub packet : ℕ
   pub value : ℕ
+  pub next : ℕ
 
 -- the words of a row
 unfoldable pub setWords : SetRow → List ℕ
@@ -42,7 +44,7 @@ unfoldable pub packetWords : PacketRow → List ℕ
 packetWords r = r .loop ∷ r .level ∷ r .parent ∷ []
 
 unfoldable pub valueWords : ValueRow → List ℕ
-valueWords r = r .name ∷ r .packet ∷ r .value ∷ []
+valueWords r = r .name ∷ r .packet ∷ r .value ∷ r .next ∷ []
 
 -- how many tokens and loops were passed, and the rows so far
 pub record Rows : Type 0 where
@@ -97,7 +99,7 @@ putPacket loop level parent r = record {
   values = r .values;
 }
 
--- a value
+-- a value: its next row is known when all rows are
 unfoldable pub putValue : (name packet : ℕ) → Rows → Rows
 putValue name packet r = record {
   tokens = suc (r .tokens);
@@ -105,7 +107,7 @@ putValue name packet r = record {
   sets = r .sets;
   names = r .names;
   packets = r .packets;
-  values = r .values ++ (record { name = name; packet = packet; value = suc (r .tokens) } ∷ []);
+  values = r .values ++ (record { name = name; packet = packet; value = suc (r .tokens); next = 0 } ∷ []);
 }
 
 abbrev pub fold {ℓ} : {A : Type ℓ} → (A → Rows → Rows) → List A → Rows → Rows
@@ -176,5 +178,30 @@ blockKind b = cond (isGlobal b) 3 1
 unfoldable pub putBlock : Block → Rows → Rows
 putBlock b r = fold (putMember (next (r .sets))) (b .members) (putSet (blockKind b) 0 r)
 
+-- the number of the first of these rows that is of a name, where they are numbered from this one on; 0 where none is
+unfoldable pub firstOf : (name number : ℕ) → List ValueRow → ℕ
+firstOf name number [] = 0
+firstOf name number (v ∷ vs) = cond (eqb (v .name) name) number (firstOf name (suc number) vs)
+
+-- a value row whose next row of the same name is this one
+unfoldable pub linkTo : (next : ℕ) → ValueRow → ValueRow
+linkTo next v = record { name = v .name; packet = v .packet; value = v .value; next = next }
+
+-- value rows, numbered from this one on, each with the next one of the same name
+unfoldable pub linkedFrom : (number : ℕ) → List ValueRow → List ValueRow
+linkedFrom number [] = []
+linkedFrom number (v ∷ vs) = linkTo (firstOf (v .name) (suc number) vs) v ∷ linkedFrom (suc number) vs
+
+-- all rows, each value row with the next one of the same name
+unfoldable pub linked : Rows → Rows
+linked r = record {
+  tokens = r .tokens;
+  loops = r .loops;
+  sets = r .sets;
+  names = r .names;
+  packets = r .packets;
+  values = linkedFrom 1 (r .values);
+}
+
 unfoldable pub rowsOf : File → Rows
-rowsOf f = fold putBlock f noRows
+rowsOf f = linked (fold putBlock f noRows)

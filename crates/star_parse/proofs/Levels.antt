@@ -4,10 +4,11 @@ use mathlib.Core.List.{List, [], _∷_, reverseAux}
 use Prim.Native.Nat.{ℕ, suc, _+_, _<_}
 use native.Mathlib.Numerals.{add-one}
 use native.Mathlib.Omega.{arith}
-use lib.ListN.{length, take, drop, drop-of-length-le}
+use lib.ListN.{length, getD, take, drop, drop-of-length-le}
 use lib.Seq.{drop-cons, getD-take, length-take-le}
 use Rattle.star_grammar.specs.Machine.{Where, Level, parentOf, body, filled}
-use Rattle.star_parse.specs.Reader.{InLoop, Outermost, Header, Around, innerOf, levelOf, deeperOf, atLevel}
+use Rattle.star_grammar.specs.Tables.{Rows}
+use Rattle.star_parse.specs.Reader.{InLoop, Outermost, Header, Around, nameAt, Columns, innerOf, levelOf, deeperOf, atLevel}
 use Rattle.star_parse.specs.declared.packets.LoopState.{LoopState}
 
 module _ (s : LoopState) (h : InLoop s) where
@@ -34,9 +35,9 @@ module _ (s : LoopState) (h : InLoop s) where
       ∙ drop-cons (take (s .levels) (s .counts)) (s .level) 0 (rw levels-length (h .some))
       ∙ ap (λ k. k ∷ drop (suc (s .level)) (take (s .levels) (s .counts))) (getD-take (s .levels) (s .counts) (s .level) 0 (h .some))
 
-  pub around-none : Outermost s → Around s []
-  unfolding parentOf
-  around-none o = record { depth = sym (o .level); parent = sym (o .parent) }
+  pub around-none : Outermost s → Around s [] (s .first)
+  unfolding parentOf nameAt
+  around-none o = record { depth = sym (o .level); parent = sym (o .parent); first = sym (ap (nameAt (s .first) (s .counts)) (o .level)) }
 
   -- the level inside
   module _ (packet : ℕ) (l : s .level + 1 < s .levels) (d : LoopState) (e : d ≡ deeperOf s packet) where
@@ -44,9 +45,11 @@ module _ (s : LoopState) (h : InLoop s) where
     deeper-in = rw e (record {
       size = h .size;
       some = l;
+      names = refl;
       limit = h .limit;
       few = h .few;
-      first = omega (arith, h .first, h .few (s .level));
+      named = h .named;
+      first = omega (arith, h .first, h .names, h .few (s .level));
     })
 
     -- the next level, and those inside it
@@ -64,8 +67,17 @@ module _ (s : LoopState) (h : InLoop s) where
     unfolding filled
     filled-deeper w outer =
         ap (filled w outer (levelOf s packet)) (sym inner-some)
-        ∙ ap (λ n. body w (levelOf s packet ∷ outer) (record { names = levelOf d 0 .names; first = n; packet = 0 }) (innerOf d) 0) (sym (ap (λ x. x .first) e))
+        ∙ ap (λ n. body w (levelOf s packet ∷ outer) (record { names = levelOf d 0 .names; first = n; packet = 0 }) (innerOf d) 0)
+        (ap (λ n. s .first + n) (sym (h .names)) ∙ sym (ap (λ x. x .first) e))
 
-    pub around-deeper : (outer : List Level) → Around s outer → Around d (levelOf s packet ∷ outer)
-    unfolding parentOf
-    around-deeper outer a = rw e (record { depth = omega (arith, a .depth); parent = refl })
+    pub around-deeper : (outer : List Level) (base : ℕ) → Around s outer base → Around d (levelOf s packet ∷ outer) base
+    unfolding parentOf nameAt
+    around-deeper outer base a =
+        rw e (record { depth = omega (arith, a .depth); parent = refl; first = rw (add-one (s .level), h .names) (ap (λ n. n + getD (s .counts) (s .level) 0) (a .first)) })
+
+    -- the columns of a loop are the same at each level
+    pub columns-deeper : (base : ℕ) (began : List ℕ) (rows : Rows) → Columns base (s .counts) (s .levels) began rows → Columns base (d .counts) (d .levels) began rows
+    columns-deeper base began rows c = rw e c
+
+    pub columns-back : (base : ℕ) (began : List ℕ) (rows : Rows) → Columns base (d .counts) (d .levels) began rows → Columns base (s .counts) (s .levels) began rows
+    columns-back base began rows c = rw e at c

@@ -2,7 +2,7 @@
 use mathlib.Core.Path.{_≡_}
 use mathlib.Core.Bool.{cond}
 use mathlib.Core.List.{List, [], _∷_, reverseAux}
-use Prim.Native.Nat.{ℕ, suc, _+_, _*_, _≤_, _<_}
+use Prim.Native.Nat.{ℕ, zero, suc, _+_, _-_, _*_, _≤_, _<_}
 use lib.Dec.{eqb, ltb}
 use lib.ListN.{length, getD, take, drop}
 use Rattle.star_text.specs.Bytes.{mostBytes}
@@ -10,8 +10,8 @@ use Rattle.star_lex.specs.Rules.{today}
 use Rattle.star_lex.specs.Tokens.{Token}
 use Rattle.star_rows.specs.Widths.{tokenWidth}
 use Rattle.star_rows.specs.Rows.{putRow}
-use Rattle.star_grammar.specs.Tables.{Rows}
-use Rattle.star_grammar.specs.Machine.{Sort, sortOf, Where, Level, parentOf, State, body, filled, Run, bad, good, run}
+use Rattle.star_grammar.specs.Tables.{Rows, linked, next}
+use Rattle.star_grammar.specs.Machine.{Sort, sortOf, Where, Level, parentOf, State, body, filled, Run, bad, good, run, lastRow}
 use Rattle.star_parse.specs.Parsed.{kindTokens, FourTables, Stored}
 use Rattle.star_parse.specs.declared.progress.Progress.{Progress}
 use Rattle.star_parse.specs.declared.packets.LoopState.{LoopState}
@@ -124,7 +124,7 @@ pub record Ready (count : ℕ) (tokens : List ℕ) (p : Progress) : Type 0 where
   pub going : p .refusal ≡ 0
   pub bounds : Bounds count tokens p
 
--- the progress counts these rows, and the tables hold them
+-- the progress counts these rows, and the tables hold them, each value row with the next one of the same name
 pub record Matches (before : FourTables) (rows : Rows) (p : Progress) (t : FourTables) : Type 0 where
   pub at : p .at ≡ rows .tokens
   pub loops : p .loops ≡ rows .loops
@@ -132,28 +132,50 @@ pub record Matches (before : FourTables) (rows : Rows) (p : Progress) (t : FourT
   pub names : p .names ≡ length (rows .names)
   pub packets : p .packets ≡ length (rows .packets)
   pub values : p .values ≡ length (rows .values)
-  pub tables : Stored before rows t
+  pub tables : Stored before (linked rows) t
 
--- a read of these tokens into these tables, with this outcome, has come to a state: the run from here on has that outcome
-pub record At (tokens : List Token) (before : FourTables) (outcome : Run) (st : State) (p : Progress) (t : FourTables) : Type 0 where
+-- a read of these tokens into these tables, with this outcome, has come to a state, and this holds of its rows: the run from here on has that outcome
+pub record AtWith (tokens : List Token) (before : FourTables) (outcome : Run) (st : State) (Holds : Rows → Type 0) (p : Progress) (t : FourTables) : Type 0 where
   pub rows : Rows
   pub matches : Matches before rows p t
   pub left : run today st (drop (p .at) tokens) rows ≡ outcome
+  pub holds : Holds rows
 
 -- it has come to a state, or the outcome is the refusal
-pub record Comes (tokens : List Token) (before : FourTables) (outcome : Run) (st : State) (p : Progress) (t : FourTables) : Type 0 where
-  pub goes : p .refusal ≡ 0 → At tokens before outcome st p t
+pub record ComesWith (tokens : List Token) (before : FourTables) (outcome : Run) (st : State) (Holds : Rows → Type 0) (p : Progress) (t : FourTables) : Type 0 where
+  pub goes : p .refusal ≡ 0 → AtWith tokens before outcome st Holds p t
   pub ends : (p .refusal ≡ 0 → ⊥) → outcome ≡ bad (p .refusal) (p .at)
 
 -- every read that is at one state comes to another, or is refused
-abbrev pub Leads : (count : ℕ) (tokens : List ℕ) → (from : State) → Progress → FourTables → (to : State) → Progress → FourTables → Type 0
-Leads count tokens from p t to r u =
-    (before : FourTables) (outcome : Run) → At (kindTokens count tokens) before outcome from p t → Comes (kindTokens count tokens) before outcome to r u
+abbrev pub LeadsWith : (count : ℕ) (tokens : List ℕ) → (from : State) → (Rows → Type 0) → Progress → FourTables → (to : State) → (Rows → Type 0) → Progress → FourTables
+    → Type 0
+LeadsWith count tokens from From p t to To r u =
+    (before : FourTables) (outcome : Run) → AtWith (kindTokens count tokens) before outcome from From p t
+    → ComesWith (kindTokens count tokens) before outcome to To r u
 
 -- every read that is at one state comes to another
-abbrev pub Passes : (count : ℕ) (tokens : List ℕ) → (from : State) → Progress → FourTables → (to : State) → Progress → FourTables → Type 0
-Passes count tokens from p t to r u =
-    (before : FourTables) (outcome : Run) → At (kindTokens count tokens) before outcome from p t → At (kindTokens count tokens) before outcome to r u
+abbrev pub PassesWith : (count : ℕ) (tokens : List ℕ) → (from : State) → (Rows → Type 0) → Progress → FourTables → (to : State) → (Rows → Type 0) → Progress → FourTables
+    → Type 0
+PassesWith count tokens from From p t to To r u =
+    (before : FourTables) (outcome : Run) → AtWith (kindTokens count tokens) before outcome from From p t
+    → AtWith (kindTokens count tokens) before outcome to To r u
+
+-- no value row is of a name row from this one on
+abbrev pub Unvalued : (from : ℕ) → Rows → Type 0
+Unvalued from rows = (name : ℕ) → from ≤ name → lastRow name (rows .values) ≡ 0
+
+-- outside of loops: no value row is of a name row that is still to come
+abbrev pub Between : Rows → Type 0
+Between rows = Unvalued (next (rows .names)) rows
+
+abbrev pub At : List Token → (before : FourTables) → Run → State → Progress → FourTables → Type 0
+At tokens before outcome st p t = AtWith tokens before outcome st Between p t
+
+abbrev pub Comes : List Token → (before : FourTables) → Run → State → Progress → FourTables → Type 0
+Comes tokens before outcome st p t = ComesWith tokens before outcome st Between p t
+
+abbrev pub Leads : (count : ℕ) (tokens : List ℕ) → (from : State) → Progress → FourTables → (to : State) → Progress → FourTables → Type 0
+Leads count tokens from p t to r u = LeadsWith count tokens from Between p t to Between r u
 
 -- what reading on answers: counts in bounds, at least so many tokens passed, and where reads come to
 pub record Onward (count : ℕ) (tokens : List ℕ) (least : ℕ) (r : Progress) (Goes : Type 0) : Type 0 where
@@ -166,7 +188,7 @@ pub record Accepts (count : ℕ) (outcome : Run) (before : FourTables) (r : Prog
   pub rows : Rows
   pub matches : Matches before rows r t
   pub all : r .at ≡ count
-  pub is : outcome ≡ good rows
+  pub is : outcome ≡ good (linked rows)
 
 -- what reading a whole file answers: it is accepted, or the outcome is the refusal
 pub record Whole (count : ℕ) (outcome : Run) (before : FourTables) (r : Progress) (t : FourTables) : Type 0 where
@@ -181,19 +203,22 @@ pub record Names (count : ℕ) (tokens : List ℕ) (p r : Progress) (Goes : Type
   pub last : sortAt count tokens (r .at) ≡ 6 → ⊥
   pub goes : Goes
 
--- what reading header stops, at most so many, answers: no `stop_` comes next, or there were as many
+-- what reading header stops, at most so many, answers: no name row is put, and no `stop_` comes next, or there were as many
 pub record Stops (count : ℕ) (tokens : List ℕ) (inner : ℕ) (p r : Progress) (Goes : Type 0) : Type 0 where
   pub ready : Ready count tokens r
   pub further : p .at ≤ r .at
+  pub names : r .names ≡ p .names
   pub last : sortAt count tokens (r .at) ≡ 5 → p .at + inner ≤ r .at
   pub goes : Goes
 
--- a state of a loop: the current level is one of those that the rules allow, and the row numbers fit
+-- a state of a loop: the current level is one of those that the rules allow, each level has a name, and the row numbers fit
 pub record InLoop (s : LoopState) : Type 0 where
   pub size : length (s .counts) ≡ 8
   pub some : s .level < s .levels
+  pub names : s .names ≡ getD (s .counts) (s .level) 0
   pub limit : s .levels ≤ today .levels
   pub few : (i : ℕ) → getD (s .counts) i 0 ≤ mostBytes
+  pub named : (i : ℕ) → i < s .levels → 0 < getD (s .counts) i 0
   pub first : s .first ≤ (mostBytes + 1) + mostBytes * s .level
 
 -- level 1, with no packet begun
@@ -222,15 +247,48 @@ deeperOf s packet = record {
   counts = s .counts;
   levels = s .levels;
   level = s .level + 1;
+  names = getD (s .counts) (s .level + 1) 0;
   filled = 0;
-  first = s .first + getD (s .counts) (s .level) 0;
+  first = s .first + s .names;
   parent = packet;
 }
 
--- the levels around the current one
-pub record Around (s : LoopState) (outer : List Level) : Type 0 where
+-- the row of the first name of a level of a loop, levels from 0, where that of the loop is this one and the levels have so many names
+unfoldable pub nameAt : (base : ℕ) → (counts : List ℕ) → (level : ℕ) → ℕ
+nameAt base counts zero = base
+nameAt base counts (suc level) = nameAt base counts level + getD counts level 0
+
+-- the levels around the current one, in a loop whose first name is of this row
+pub record Around (s : LoopState) (outer : List Level) (base : ℕ) : Type 0 where
   pub depth : length outer ≡ s .level
   pub parent : parentOf outer ≡ s .parent
+  pub first : s .first ≡ nameAt base (s .counts) (s .level)
+
+-- the value row of the j-th name of a level, from 0, in a packet whose own values begin at this row; 0 where there is no packet
+unfoldable pub inPacket : (began j : ℕ) → ℕ
+inPacket zero j = 0
+inPacket (suc b) j = suc b + j
+
+-- how many rows back from each value of a packet that begins after so many rows the last one of its name is, where the last packet of the level began at this
+-- row; 0 where there is no packet
+unfoldable pub backTo : (began rows : ℕ) → ℕ
+backTo zero rows = 0
+backTo (suc b) rows = rows - b
+
+-- between the packets of a loop: the last value row of each name is in the last packet of its level, which began at the row that is kept for the level
+pub record Columns (base : ℕ) (counts : List ℕ) (levels : ℕ) (began : List ℕ) (rows : Rows) : Type 0 where
+  pub column : (i j : ℕ) → i < levels → j < getD counts i 0 → lastRow (nameAt base counts i + j) (rows .values) ≡ inPacket (getD began i 0) j
+  pub ends : nameAt base counts levels ≡ next (rows .names)
+  pub unvalued : Between rows
+
+-- in a packet of a level that has so many values: those are the last rows
+pub record Filling (base : ℕ) (counts : List ℕ) (levels level filled : ℕ) (began : List ℕ) (rows : Rows) : Type 0 where
+  pub enough : filled ≤ length (rows .values)
+  pub own : (j : ℕ) → j < filled → lastRow (nameAt base counts level + j) (rows .values) ≡ suc (length (rows .values) - filled + j)
+  pub still : (j : ℕ) → filled ≤ j → j < getD counts level 0 → lastRow (nameAt base counts level + j) (rows .values) ≡ inPacket (getD began level 0) j
+  pub other : (i j : ℕ) → i < levels → (i ≡ level → ⊥) → j < getD counts i 0 → lastRow (nameAt base counts i + j) (rows .values) ≡ inPacket (getD began i 0) j
+  pub ends : nameAt base counts levels ≡ next (rows .names)
+  pub unvalued : Between rows
 
 -- no packet of the current level is begun
 abbrev pub atLevel : Where → List Level → LoopState → State

@@ -10,7 +10,7 @@ ghost use Prim.Native.Nat.{ℕ, suc, _+_, _-_, _<_};
 ghost use lib.ListN.{length};
 ghost use Rattle.star_grammar.specs.Machine.{Where, setOf, within, header};
 ghost use Rattle.star_parse.specs.Parsed.{FourTables, fourTables};
-ghost use Rattle.star_parse.specs.Reader.{Ahead, NoEntry, Ready, Onward, Leads, Passes, Names, Stops, InLoop, Outermost, Header};
+ghost use Rattle.star_parse.specs.Reader.{Ahead, NoEntry, Ready, Onward, LeadsWith, Leads, PassesWith, Unvalued, Between, Names, Stops, InLoop, Outermost, Header, nameAt};
 
 // The names of a level, up to a token that is none.
 fn read_names(
@@ -24,8 +24,8 @@ fn read_names(
     requires { ⌜ Ready count (now tokens) p ⌝ }
     ensures { λ r. ⌜ Names count (now (tokens .entry)) p r
         ((w : Where) (first : ℕ) (outer : List ℕ) (sets packets values : List ℕ) → setOf w ≡ set → suc (length outer) ≡ level
-        → Passes count (now (tokens .entry)) (header w first outer 0 0) p (fourTables sets (now (names .entry)) packets values)
-        (header w first outer (r .names - p .names) 0) r (fourTables sets (now (names .exit)) packets values)) ⌝ }
+        → PassesWith count (now (tokens .entry)) (header w first outer 0 0) (Unvalued first) p (fourTables sets (now (names .entry)) packets values)
+        (header w first outer (r .names - p .names) 0) (Unvalued first) r (fourTables sets (now (names .exit)) packets values)) ⌝ }
 {
     let mut p = p;
     while progress::sort_at(tokens, count, p.at) == progress::NAME {
@@ -39,7 +39,7 @@ fn read_stops(tokens: &[u32], count: usize, inner: usize, p: Progress) -> Progre
     requires { ⌜ Ready count (now tokens) p ⌝ }
     ensures { λ r. ⌜ Stops count (now (tokens .entry)) inner p r
         ((w : Where) (first : ℕ) (outer : List ℕ) (n : ℕ) (t : FourTables) → 0 < n → length outer ≡ inner
-        → Passes count (now (tokens .entry)) (header w first outer n 0) p t (header w first outer n (r .at - p .at)) r t) ⌝ }
+        → PassesWith count (now (tokens .entry)) (header w first outer n 0) (Unvalued first) p t (header w first outer n (r .at - p .at)) (Unvalued first) r t) ⌝ }
 {
     let mut p = p;
     let mut stops = 0;
@@ -66,17 +66,20 @@ fn read_packets(
     requires { ⌜ NoEntry count (now tokens) (p .at) ⌝ }
     requires { ⌜ InLoop s ⌝ }
     requires { ⌜ Outermost s ⌝ }
+    requires { ⌜ nameAt (s .first) (s .counts) (s .levels) ≡ p .names + 1 ⌝ }
     ensures { λ r. ⌜ Onward count (now (tokens .entry)) (p .at) r
         ((w : Where) (outer : List ℕ) (n : ℕ) (sets names : List ℕ) → Header s outer n
-        → Leads count (now (tokens .entry)) (header w (s .first) outer n 0) p (fourTables sets names (now (packets .entry)) (now (values .entry)))
-        (within w) r (fourTables sets names (now (packets .exit)) (now (values .exit)))) ⌝ }
+        → LeadsWith count (now (tokens .entry)) (header w (s .first) outer n 0) (Unvalued (s .first)) p
+        (fourTables sets names (now (packets .entry)) (now (values .entry)))
+        (within w) Between r (fourTables sets names (now (packets .exit)) (now (values .exit)))) ⌝ }
 {
     let p = read_stops(tokens, count, s.levels - 1, p);
     let sort = progress::sort_at(tokens, count, p.at);
     if sort != progress::VALUE {
         return progress::misplaced(p, progress::OUT_OF_PLACE);
     }
-    packets::read_level(tokens, count, s, p, packets, values)
+    let mut began = [0u32; LEVELS];
+    packets::read_level(tokens, count, s, p, &mut began, packets, values)
 }
 
 // A loop: its header from `loop_` on, and its packets.
@@ -114,6 +117,7 @@ pub(crate) fn read_loop(
                 counts,
                 levels: level + 1,
                 level: 0,
+                names: counts[0],
                 filled: 0,
                 first,
                 parent: 0,

@@ -49,7 +49,7 @@ fn read_item(
     let p = progress::put_name(p, set, 0, 0, names);
     let sort = progress::sort_at(tokens, count, p.at);
     if sort == progress::VALUE {
-        progress::put_value(p, p.names, 0, values)
+        progress::put_value(p, p.names, 0, 0, values)
     } else {
         progress::misplaced(p, progress::OUT_OF_PLACE)
     }

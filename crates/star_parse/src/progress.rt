@@ -1,9 +1,10 @@
 // How far a read has come, the sort of the next token, and the rows that tokens make.
 ghost use mathlib.Core.Path.{_≡_};
 ghost use mathlib.Core.List.{[], _∷_};
-ghost use Prim.Native.Nat.{_+_, _*_, _≤_};
+ghost use Prim.Native.Nat.{_+_, _-_, _*_, _≤_};
 ghost use lib.ListN.{length};
-ghost use Rattle.star_rows.specs.Widths.{tokenWidth};
+ghost use Rattle.star_rows.specs.Widths.{tokenWidth, valueWidth};
+ghost use Rattle.star_rows.specs.Rows.{putRow, putWord};
 ghost use Rattle.star_parse.specs.Reader.{numberOf, SortAt, blockKindOf, Fresh, CountRoom, Moved, Misplaced, RowPut};
 
 // The words of a row of table 1.
@@ -184,13 +185,58 @@ pub(crate) fn put_packet(p: Progress, level: u32, parent: u32, packets: &mut [u3
     q
 }
 
-// Past a value: its row.
-pub(crate) fn put_value(p: Progress, name: u32, packet: u32, values: &mut [u32]) -> Progress
-    requires { ⌜ CountRoom p ⌝ }
-    ensures { λ r. ⌜ RowPut (name ∷ packet ∷ (p .at + 1) ∷ []) (p .values) (now (values .entry)) (now (values .exit)) (Moved p 1 0 0 0 0 1 r) ⌝ }
+// Writes a value row that leads to none as row `n` of the table, counted from 0, and its number into the row `back` before it, which leads to it, each if
+// it fits. Where `back` is 0 that is the row itself, and is written over.
+fn put_linked(
+    values: &mut [u32],
+    n: usize,
+    back: usize,
+    name: u32,
+    packet: u32,
+    token: u32,
+    number: u32,
+)
+    requires { ⌜ back ≤ n ⌝ }
+    ensures { λ _. ⌜ now (values .exit) ≡ putRow (name ∷ packet ∷ token ∷ 0 ∷ []) n (putWord valueWidth (n - back) 3 number (now (values .entry))) ⌝ }
 {
-    let row = p.values as usize;
-    star_rows::put3(values, row, name, packet, p.at + 1);
+    let rows = values.len() / 4;
+    let before = n - back;
+    if n < rows {
+        let link = before * 4;
+        values[link + 3] = number;
+        let at = n * 4;
+        values[at] = name;
+        values[at + 1] = packet;
+        values[at + 2] = token;
+        values[at + 3] = 0;
+    } else if before < rows {
+        let linked = before * 4;
+        values[linked + 3] = number;
+    }
+}
+
+// Past a value: its row, which leads to none, and the row so many before it, which leads to it; with 0 there is no such row.
+pub(crate) fn put_value(
+    p: Progress,
+    name: u32,
+    packet: u32,
+    back: u32,
+    values: &mut [u32],
+) -> Progress
+    requires { ⌜ CountRoom p ⌝ }
+    requires { ⌜ back ≤ p .values ⌝ }
+    ensures { λ r. ⌜ RowPut (name ∷ packet ∷ (p .at + 1) ∷ 0 ∷ []) (p .values)
+        (putWord valueWidth (p .values - back) 3 (p .values + 1) (now (values .entry))) (now (values .exit)) (Moved p 1 0 0 0 0 1 r) ⌝ }
+{
+    put_linked(
+        values,
+        p.values as usize,
+        back as usize,
+        name,
+        packet,
+        p.at + 1,
+        p.values + 1,
+    );
     let mut q = p;
     q.at = p.at + 1;
     q.values = p.values + 1;

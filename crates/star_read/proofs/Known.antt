@@ -9,7 +9,7 @@ use Rattle.star_lex.specs.Tokens.{Placed, tokenRow, opening, dataWord, saveWord
 use Rattle.star_lex.specs.Split.{after, starts, whiteNext, quoted, lineEnd, closes, closeLength, field, limited, blockWord, frameWord, alone, nameWord, referenceWord, either, wordLexeme, wordFrom, quotedLexeme, fieldLexeme, lexeme, moreOf, before, enter, split, tokensBy}
 use Rattle.star_lex.specs.Plain.{ends, newline, closing, indent, plainToken, plainBy}
 use Rattle.star_lex.specs.Answer.{tokensInBy, tokensFit}
-use Rattle.star_grammar.specs.Tables.{Rows, noRows, pass, openLoop, putSet, putName, putPacket, putValue, setWords, nameWords, packetWords, valueWords}
+use Rattle.star_grammar.specs.Tables.{Rows, noRows, pass, openLoop, putSet, putName, putPacket, putValue, firstOf, linkTo, linkedFrom, linked, setWords, nameWords, packetWords, valueWords}
 use Rattle.star_grammar.specs.Machine.{sortOf, setOf, parentOf, between, filled, fill, valueAt, begin, headerStep, noValue, noValueAt, bodyStep, startStep, namedStep, step, endBetween, endBody, endRun, run as machine-run}
 use Rattle.star_unique.specs.Repeat.{among, nothing, isTaken, takeBlock, takeFrame, endFrame, takeName, takes, firstRepeat}
 use Rattle.star_read.specs.Read.{tokenPlace, decide, grammarOf, roomFor, rowsFit, readBy, readOf}
@@ -17,7 +17,7 @@ use Rattle.star_read.specs.Answer.{tablesOf}
 use Rattle.star_read.specs.Known.{Known, readTokens, ofWords, fullCase}
 
 pub known : Known
-unfolding flatMap isBlank isTerminate isWhite isPrintable isAllowed leading firstRefused holding tokenRow opening dataWord saveWord loopWord stopWord globalWord after starts whiteNext quoted lineEnd closes closeLength field limited blockWord frameWord alone nameWord referenceWord either wordLexeme wordFrom quotedLexeme fieldLexeme lexeme moreOf before enter split tokensBy ends newline closing indent plainToken plainBy tokensInBy tokensFit then need noRows pass openLoop putSet putName putPacket putValue setWords nameWords packetWords valueWords sortOf setOf parentOf between filled fill valueAt begin headerStep noValue noValueAt bodyStep startStep namedStep step endBetween endBody endRun machine-run key equal among nothing isTaken takeBlock takeFrame endFrame takeName takes firstRepeat tokenPlace decide grammarOf roomFor rowsFit readBy tablesOf readTokens
+unfolding flatMap isBlank isTerminate isWhite isPrintable isAllowed leading firstRefused holding tokenRow opening dataWord saveWord loopWord stopWord globalWord after starts whiteNext quoted lineEnd closes closeLength field limited blockWord frameWord alone nameWord referenceWord either wordLexeme wordFrom quotedLexeme fieldLexeme lexeme moreOf before enter split tokensBy ends newline closing indent plainToken plainBy tokensInBy tokensFit then need noRows pass openLoop putSet putName putPacket putValue firstOf linkTo linkedFrom linked setWords nameWords packetWords valueWords sortOf setOf parentOf between filled fill valueAt begin headerStep noValue noValueAt bodyStep startStep namedStep step endBetween endBody endRun machine-run key equal among nothing isTaken takeBlock takeFrame endFrame takeName takes firstRepeat tokenPlace decide grammarOf roomFor rowsFit readBy tablesOf readTokens
 known = (refl, refl, refl, refl, refl, refl, refl, refl, refl, refl, refl, refl)
 
 -- the tokens and the rows of the full case
@@ -44,14 +44,14 @@ fullRows =
       sets = record { kind = 1; heading = 1; parent = 0 } ∷ [];
       names = record { set = 1; name = 3; loop = 1; level = 1 } ∷ record { set = 1; name = 5; loop = 1; level = 2 } ∷ [];
       packets = record { loop = 1; level = 1; parent = 0 } ∷ record { loop = 1; level = 2; parent = 1 } ∷ record { loop = 1; level = 2; parent = 1 } ∷ record { loop = 1; level = 1; parent = 0 } ∷ [];
-      values = record { name = 1; packet = 1; value = 6 } ∷ record { name = 2; packet = 2; value = 7 } ∷ record { name = 2; packet = 3; value = 8 } ∷ record { name = 1; packet = 4; value = 10 } ∷ [];
+      values = record { name = 1; packet = 1; value = 6; next = 4 } ∷ record { name = 2; packet = 2; value = 7; next = 3 } ∷ record { name = 2; packet = 3; value = 8; next = 0 } ∷ record { name = 1; packet = 4; value = 10; next = 0 } ∷ [];
     }
 
 -- in tables of so many words as the program has
 pub full-read : readOf fullCase (ofWords 16384) ≡ accepted (fullTokens, fullRows)
-unfolding isBlank isTerminate isWhite isPrintable isAllowed leading firstRefused dataWord saveWord loopWord stopWord globalWord after starts whiteNext quoted lineEnd closes closeLength field limited blockWord frameWord alone nameWord referenceWord either wordLexeme wordFrom quotedLexeme fieldLexeme lexeme moreOf before enter split tokensBy tokensInBy tokensFit then need noRows pass openLoop putSet putName putPacket putValue sortOf setOf parentOf between filled fill valueAt begin headerStep noValue noValueAt bodyStep startStep namedStep step endBetween endBody endRun machine-run key equal among nothing isTaken takeBlock takeFrame endFrame takeName takes firstRepeat tokenPlace decide grammarOf roomFor rowsFit readBy
+unfolding isBlank isTerminate isWhite isPrintable isAllowed leading firstRefused dataWord saveWord loopWord stopWord globalWord after starts whiteNext quoted lineEnd closes closeLength field limited blockWord frameWord alone nameWord referenceWord either wordLexeme wordFrom quotedLexeme fieldLexeme lexeme moreOf before enter split tokensBy tokensInBy tokensFit then need noRows pass openLoop putSet putName putPacket putValue firstOf linkTo linkedFrom linked sortOf setOf parentOf between filled fill valueAt begin headerStep noValue noValueAt bodyStep startStep namedStep step endBetween endBody endRun machine-run key equal among nothing isTaken takeBlock takeFrame endFrame takeName takes firstRepeat tokenPlace decide grammarOf roomFor rowsFit readBy
 full-read = refl
 
 pub empty-read : readOf [] (ofWords 16384) ≡ accepted ([], noRows)
-unfolding leading firstRefused split tokensBy tokensInBy tokensFit then need noRows endRun machine-run nothing firstRepeat decide grammarOf roomFor rowsFit readBy
+unfolding leading firstRefused split tokensBy tokensInBy tokensFit then need noRows linkedFrom linked endRun machine-run nothing firstRepeat decide grammarOf roomFor rowsFit readBy
 empty-read = refl

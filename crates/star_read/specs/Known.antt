@@ -24,11 +24,11 @@ fullCase = (100 ∷ 97 ∷ 116 ∷ 97 ∷ 95 ∷ 97 ∷ 10 ∷ 108 ∷ 111 ∷ 1
 abbrev pub Known : Type 0
 Known =
     -- the full case: tokens, sets, names, packets and values, each in a table of just their words
-    (tablesOf (readOf fullCase (record { tokens = 33; sets = 3; names = 8; packets = 12; values = 12 }))
-    (record { tokens = 33; sets = 3; names = 8; packets = 12; values = 12 })
+    (tablesOf (readOf fullCase (record { tokens = 33; sets = 3; names = 8; packets = 12; values = 16 }))
+    (record { tokens = 33; sets = 3; names = 8; packets = 12; values = 16 })
     ≡ tables (1 ∷ 5 ∷ 6 ∷ 4 ∷ 7 ∷ 12 ∷ 6 ∷ 13 ∷ 15 ∷ 4 ∷ 16 ∷ 21 ∷ 6 ∷ 22 ∷ 24 ∷ 7 ∷ 25 ∷ 26 ∷ 7 ∷ 27 ∷ 28 ∷ 7 ∷ 29 ∷ 30 ∷ 5 ∷ 31 ∷ 36 ∷ 7 ∷ 37 ∷ 38 ∷ 5 ∷ 39 ∷ 44 ∷ []) (1 ∷ 1 ∷ 0 ∷ []) (1 ∷ 3 ∷ 1 ∷ 1 ∷ 1 ∷ 5 ∷ 1 ∷ 2 ∷ [])
     (1 ∷ 1 ∷ 0 ∷ 1 ∷ 2 ∷ 1 ∷ 1 ∷ 2 ∷ 1 ∷ 1 ∷ 1 ∷ 0 ∷ [])
-    (1 ∷ 1 ∷ 6 ∷ 2 ∷ 2 ∷ 7 ∷ 2 ∷ 3 ∷ 8 ∷ 1 ∷ 4 ∷ 10 ∷ []))
+    (1 ∷ 1 ∷ 6 ∷ 4 ∷ 2 ∷ 2 ∷ 7 ∷ 3 ∷ 2 ∷ 3 ∷ 8 ∷ 0 ∷ 1 ∷ 4 ∷ 10 ∷ 0 ∷ []))
     -- its plain form, `data_a/loop_/_x/loop_/_y/1/2/3/stop_/4/stop_/`
     × (plainOf (readTokens (readOf fullCase (ofWords 100)))
     ≡ (100 ∷ 97 ∷ 116 ∷ 97 ∷ 95 ∷ 97 ∷ 10 ∷ 108 ∷ 111 ∷ 111 ∷ 112 ∷ 95 ∷ 10 ∷ 95 ∷ 120 ∷ 10 ∷ 108 ∷ 111 ∷ 111 ∷ 112 ∷ 95 ∷ 10 ∷ 95 ∷ 121 ∷ 10 ∷ 49 ∷ 10 ∷ 50 ∷ 10 ∷ 51 ∷ 10 ∷ 115 ∷ 116 ∷ 111 ∷ 112 ∷ 95 ∷ 10 ∷ 52 ∷ 10 ∷ 115 ∷ 116 ∷ 111 ∷ 112 ∷ 95 ∷ 10 ∷ []))

@@ -1,4 +1,5 @@
 pub mod Clear
 pub mod Held
+pub mod WordPut
 pub mod Stored
 pub mod Words

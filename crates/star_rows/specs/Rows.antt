@@ -3,7 +3,7 @@ use mathlib.Core.Bool.{Bool, cond}
 use mathlib.Core.List.{List, _++_, flatMap}
 use Prim.Native.Nat.{ℕ, zero, suc, _+_, _-_, _*_, _/_}
 use lib.Dec.{leb, ltb}
-use lib.ListN.{length, getD, take, drop, replicate}
+use lib.ListN.{length, getD, take, drop, replicate, set}
 use lib.Seq.{sets}
 
 -- a table of that many words that holds these rows: words after the last row are 0
@@ -17,6 +17,10 @@ clearedFrom at words = take at words ++ replicate (length words - at) 0
 -- a row is written as the n-th of its width, counted from 0, if it fits
 unfoldable pub putRow : List ℕ → ℕ → List ℕ → List ℕ
 putRow row n words = cond (ltb n (length words / length row)) (sets words (n * length row) row) words
+
+-- a word of a row is written, rows and words counted from 0, if the row fits: for contracts of star_parse
+unfoldable pub putWord : (width row word value : ℕ) → List ℕ → List ℕ
+putWord width row word value words = cond (ltb row (length words / width)) (set words (row * width + word) value) words
 
 -- the rows that fit a table, all of that width, over what the table held before
 unfoldable pub stored {ℓ} : {A : Type ℓ} → ℕ → (A → List ℕ) → List A → List ℕ → List ℕ

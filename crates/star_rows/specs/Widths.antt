@@ -14,4 +14,4 @@ abbrev pub packetWidth : ℕ
 packetWidth = 3
 
 abbrev pub valueWidth : ℕ
-valueWidth = 3
+valueWidth = 4

@@ -12,7 +12,7 @@ pub const NAME_WIDTH: u32 = 4;
 
 pub const PACKET_WIDTH: u32 = 3;
 
-pub const VALUE_WIDTH: u32 = 3;
+pub const VALUE_WIDTH: u32 = 4;
 
 // Writes a row of three words as row `n` of the table, counted from 0, if it fits.
 pub fn put3(table: &mut [u32], n: usize, a: u32, b: u32, c: u32)

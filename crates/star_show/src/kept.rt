@@ -35,9 +35,9 @@ fn print_table(kept: &[u32], t: u32) {
     print::rows(lent(kept, t), word(kept, t) as usize * 3, 3);
 }
 
-// Prints the rows of table 3, and any word after them that is not 0.
-fn print_names(kept: &[u32]) {
-    print::rows(lent(kept, 3), word(kept, 3) as usize * 4, 4);
+// The same of a table of four words a row.
+fn print_wide_table(kept: &[u32], t: u32) {
+    print::rows(lent(kept, t), word(kept, t) as usize * 4, 4);
 }
 
 // Prints the tables, with these bytes between them.
@@ -46,11 +46,11 @@ fn print_tables(kept: &[u32], between: &[u8]) {
     print::text(between);
     print_table(kept, 2);
     print::text(between);
-    print_names(kept);
+    print_wide_table(kept, 3);
     print::text(between);
     print_table(kept, 4);
     print::text(between);
-    print_table(kept, 5);
+    print_wide_table(kept, 5);
 }
 
 // Prints of an accepted file the counts and the rows of the five tables, and of a refused one any count or word that is not 0.

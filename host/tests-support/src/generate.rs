@@ -1,5 +1,6 @@
 //! Files and tables to compare readers on, all from seeds.
 
+pub mod columns;
 pub mod globals;
 pub mod numbers;
 pub mod pairs;
@@ -693,7 +694,8 @@ pub fn in_order(counts: &mut Counts) -> [&mut u32; 5] {
 fn telling(rng: &mut Rng, handed: &Handed) -> u32 {
     let counts = handed.counts;
     match rng.below(12) {
-        0..=4 => rng.below(6) as u32,
+        0..=3 => rng.below(6) as u32,
+        4 => counts.values.wrapping_add(rng.below(3) as u32).wrapping_sub(1),
         5 => counts.tokens.wrapping_add(rng.below(3) as u32).wrapping_sub(1),
         6 => counts.sets.wrapping_add(rng.below(3) as u32).wrapping_sub(1),
         7 => counts.names.wrapping_add(rng.below(3) as u32).wrapping_sub(1),
@@ -881,7 +883,7 @@ mod tests {
                 };
                 let own: Vec<&[u32]> = names.chunks(4).filter(|row| row[0] == set).collect();
                 let looped =
-                    values.chunks(3).any(|row| row[2] as usize + 1 == heading && row[1] != 0);
+                    values.chunks(4).any(|row| row[2] as usize + 1 == heading && row[1] != 0);
                 let holds = [
                     at == 0,
                     is(at.checked_sub(1), false) && is(Some(at + 1), false),

@@ -14,7 +14,7 @@ pub mod number;
 pub mod reference;
 
 /// The words of a row in each of the five tables.
-pub const WIDTHS: [usize; 5] = [3, 3, 4, 3, 3];
+pub const WIDTHS: [usize; 5] = [3, 3, 4, 3, 4];
 
 /// The largest file and the largest plain form, in bytes.
 pub const MOST_BYTES: usize = 1_048_576;

@@ -217,8 +217,8 @@ pub struct Rows {
     pub names: Vec<[u32; 4]>,
     /// Loop, level, parent packet.
     pub packets: Vec<[u32; 3]>,
-    /// Name row, packet, token.
-    pub values: Vec<[u32; 3]>,
+    /// Name row, packet, token, next value row of the same name.
+    pub values: Vec<[u32; 4]>,
 }
 
 /// The rows of a file's tokens, or the first of refusals 8 to 11.
@@ -227,13 +227,28 @@ pub fn rows(file: &[u8], tokens: &[Token]) -> Result<Rows, Refusal> {
     let mut codes = HashSet::new();
     loop {
         let (kind, heading) = match parser.kind() {
-            0 => return Ok(parser.rows),
+            0 => {
+                link(&mut parser.rows);
+                return Ok(parser.rows);
+            }
             1 => (1, parser.take_unique(&mut codes)?),
             // a global block, which has no code
             12 => (3, parser.take()),
             _ => return parser.refuse(8),
         };
         parser.block(kind, heading)?;
+    }
+}
+
+/// Gives each value row its fourth word: the next row with the same name, 0 after
+/// the last.
+fn link(rows: &mut Rows) {
+    // from the last row to the first, the row of each name that was met last
+    let mut next = vec![0; rows.names.len() + 1];
+    for (at, value) in rows.values.iter_mut().enumerate().rev() {
+        let next = &mut next[value[0] as usize];
+        value[3] = *next;
+        *next = at as u32 + 1;
     }
 }
 
@@ -282,7 +297,8 @@ impl<'a> Parser<'a> {
 
     fn take_value(&mut self, name: u32, packet: u32) {
         let token = self.take();
-        self.rows.values.push([name, packet, token]);
+        // no link yet: what follows is not known
+        self.rows.values.push([name, packet, token, 0]);
     }
 
     /// The items, loops and save frames of a data or global block, up to the next
@@ -581,7 +597,7 @@ fn counts_hold(tables: Tables<'_>, counts: Counts) -> bool {
         && holds(counts.sets, tables.sets, 3)
         && holds(counts.names, tables.names, 4)
         && holds(counts.packets, tables.packets, 3)
-        && holds(counts.values, tables.values, 3)
+        && holds(counts.values, tables.values, 4)
 }
 
 /// Whether a row number is one of a table with this count.
@@ -670,6 +686,26 @@ pub fn find_name(file: &[u8], tables: Tables<'_>, counts: Counts, set: u32, name
     answer
 }
 
+/// The words of the k-th value row of a name: of the first row of the name, or of
+/// that to which k - 1 links lead from there. Or the refusal.
+fn value_row(values: &[u32], name_row: u32, k: u32) -> Result<&[u32], u32> {
+    let count = values.len() / 4;
+    let words = |row: usize| &values[4 * (row - 1)..4 * row];
+    let mut row = (1..=count).find(|&row| words(row)[0] == name_row).ok_or(13u32)?;
+    for _ in 1..k {
+        // choice: a link is looked at when it is followed
+        let link = words(row)[3] as usize;
+        if link == 0 {
+            return Err(13);
+        }
+        if link <= row || link > count || words(link)[0] != name_row {
+            return Err(14);
+        }
+        row = link;
+    }
+    Ok(words(row))
+}
+
 /// The k-th value of a name row: kind, packet and part, or the refusal.
 fn value(
     file: &[u8],
@@ -684,9 +720,7 @@ fn value(
     if k == 0 {
         return Err(13);
     }
-    let values = tables.values.chunks_exact(3).take(counts.values as usize);
-    let mut own = values.filter(|row| row[0] == name_row);
-    let row = own.nth(k as usize - 1).ok_or(13u32)?;
+    let row = value_row(&tables.values[..4 * counts.values as usize], name_row, k)?;
     let (kind, start, end) = token_part(file, tables, counts, row[2]).ok_or(14u32)?;
     Ok((kind, row[1], Part { start, end }))
 }
@@ -747,6 +781,7 @@ mod tests {
         answer_vectors("base.txt", include_str!("../../vectors/base.txt"), 130);
         answer_vectors("102.txt", include_str!("../../vectors/102.txt"), 30);
         answer_vectors("105.txt", include_str!("../../vectors/105.txt"), 38);
+        answer_vectors("106.txt", include_str!("../../vectors/106.txt"), 9);
     }
 
     #[test]
@@ -819,10 +854,10 @@ mod tests {
         let full = b"data_a\nloop_\n_x\nloop_\n_y\n1 2 3 stop_ 4 stop_\n";
         assert_eq!(full.len(), 45);
         assert_eq!(answer(full), Ok([11, 1, 2, 4, 4]));
-        let (_, tables) = read(full, [33, 3, 8, 12, 12]);
+        let (_, tables) = read(full, [33, 3, 8, 12, 16]);
         assert_eq!(tables[2], [1, 3, 1, 1, 1, 5, 1, 2]);
         assert_eq!(tables[3], [1, 1, 0, 1, 2, 1, 1, 2, 1, 1, 1, 0]);
-        assert_eq!(tables[4], [1, 1, 6, 2, 2, 7, 2, 3, 8, 1, 4, 10]);
+        assert_eq!(tables[4], [1, 1, 6, 4, 2, 2, 7, 3, 2, 3, 8, 0, 1, 4, 10, 0]);
         let plain = b"data_a\nloop_\n_x\nloop_\n_y\n1\n2\n3\nstop_\n4\nstop_\n";
         assert_eq!(write(full, ROOM, plain.len()).2, plain);
         assert_eq!(write(b"data_a _x ;b", ROOM, 14).2, b"data_a\n_x\n ;b\n");
@@ -1103,6 +1138,52 @@ mod tests {
         assert_eq!(value_span(cut, tables, counts, 2, 1), Part { start: 0, end: 0 });
         let refused = ValueNumber { refusal: 14, form: 0, value: 0.0, uncertainty: 0.0 };
         assert_eq!(value_number(cut, tables, counts, 2, 1), refused);
+    }
+
+    /// In any tables the k-th value is found by the links, whatever they are.
+    #[test]
+    fn links_are_followed() {
+        let file = b"data_a loop_ _x _y 1 2 3 4 5 6";
+        let (answer, tables) = read(file, ROOM);
+        let links: Vec<u32> = tables[4].chunks(4).take(6).map(|row| row[3]).collect();
+        assert_eq!(links, [3, 4, 5, 6, 0, 0]);
+        // of each k from 0 to 4 the value's first byte or the refusal
+        let asked = |tables: &[Vec<u32>; 5], values: u32| {
+            let (tables, counts) = (Tables::of(tables), Counts { values, ..answer.counts() });
+            [0, 1, 2, 3, 4].map(|k| match value(file, tables, counts, 1, k) {
+                Ok((_, _, part)) => (file[part.start] as char).to_string(),
+                Err(refusal) => refusal.to_string(),
+            })
+        };
+        assert_eq!(asked(&tables, 6), ["13", "1", "3", "5", "13"]);
+        assert_eq!(asked(&tables, 4), ["13", "1", "3", "14", "14"]);
+        assert_eq!(asked(&tables, 0), ["13"; 5]);
+        // a row, its link, and what is then answered
+        let known = [
+            (1, 0, ["13", "1", "13", "13", "13"]),
+            (1, 1, ["13", "1", "14", "14", "14"]),
+            (1, 2, ["13", "1", "14", "14", "14"]),
+            (1, 5, ["13", "1", "5", "13", "13"]),
+            (1, 7, ["13", "1", "14", "14", "14"]),
+            (1, u32::MAX, ["13", "1", "14", "14", "14"]),
+            (3, 0, ["13", "1", "3", "13", "13"]),
+            (3, 1, ["13", "1", "3", "14", "14"]),
+            (3, 3, ["13", "1", "3", "14", "14"]),
+            (3, 4, ["13", "1", "3", "14", "14"]),
+            (5, 5, ["13", "1", "3", "5", "14"]),
+            (5, 6, ["13", "1", "3", "5", "14"]),
+            // of another name
+            (2, 1, ["13", "1", "3", "5", "13"]),
+        ];
+        for (row, link, answers) in known {
+            let mut other = tables.clone();
+            other[4][4 * row - 1] = link;
+            assert_eq!(asked(&other, 6), answers, "{row}, {link}");
+        }
+        // a first row of the name whose token points outside is passed over
+        let mut other = tables.clone();
+        other[4][2] = 0;
+        assert_eq!(asked(&other, 6), ["13", "14", "3", "5", "13"]);
     }
 
     /// In any tables the kind word of a set's row says whether its lookup goes on

@@ -18,7 +18,10 @@ value-row-requires c κs = search needs
 
 returns-2 : tie.Need-returns-2
 unfolding locate located missing
-returns-2 c = rw (sym (c .before .before .before .row-there .ensures) ∙ not-false _ (c .before .before .if1 .left), sym (c .before .value-row .ensures), eq-eqb _ 0 (c .if2 .taken))
+returns-2 c =
+    let at-value-row = c .before .before in
+    let at-if1 = at-value-row .before in
+    rw (sym (at-if1 .before .row-there .ensures) ∙ not-false _ (at-if1 .if1 .left), sym (at-value-row .value-row .ensures), ne-eqb _ 0 (c .if2 .taken))
 
 word-requires : tie.Need-word-requires
 word-requires c κs = search needs
@@ -34,19 +37,19 @@ unfolding locate located
 returns-3 c =
     let at-word = c .before .before .before in
     let at-if2 = at-word .before in
-    let at-value-row = at-if2 .before in
+    let at-value-row = at-if2 .before .before in
     let at-if1 = at-value-row .before in
     let at-row-there = at-if1 .before in
-    rw (sym (at-row-there .row-there .ensures) ∙ not-false _ (at-if1 .if1 .left), sym (at-value-row .value-row .ensures), ne-eqb _ 0 (at-if2 .if2 .left), sym (at-word .word .ensures), sym (c .before .before .has-part .ensures) ∙ c .before .if3 .taken, sym (c .word2 .ensures))
+    rw (sym (at-row-there .row-there .ensures) ∙ not-false _ (at-if1 .if1 .left), sym (at-value-row .value-row .ensures), eq-eqb _ 0 (at-if2 .if2 .left), sym (at-word .word .ensures), sym (c .before .before .has-part .ensures) ∙ c .before .if3 .taken, sym (c .word2 .ensures))
 
 returns-4 : tie.Need-returns-4
 unfolding locate located missing
 returns-4 c =
     let at-if2 = c .before .before .before in
-    let at-value-row = at-if2 .before in
+    let at-value-row = at-if2 .before .before in
     let at-if1 = at-value-row .before in
     let at-row-there = at-if1 .before in
-    rw (sym (at-row-there .row-there .ensures) ∙ not-false _ (at-if1 .if1 .left), sym (at-value-row .value-row .ensures), ne-eqb _ 0 (at-if2 .if2 .left), sym (c .before .before .word .ensures), sym (c .before .has-part .ensures) ∙ c .if3 .left)
+    rw (sym (at-row-there .row-there .ensures) ∙ not-false _ (at-if1 .if1 .left), sym (at-value-row .value-row .ensures), eq-eqb _ 0 (at-if2 .if2 .left), sym (c .before .before .word .ensures), sym (c .before .has-part .ensures) ∙ c .if3 .left)
 
 pub locate-spec : {M : Type 1} → statement M
 locate-spec =

@@ -1,78 +1,52 @@
--- `value_row` meets its contract: what is left to count from a row on gives the answer from the first row on.
-use mathlib.Core.Path.{_≡_, sym, _∙_, ap}
-use Prim.Native.Nat.{_+_, _-_, _≤_}
-use native.Mathlib.Nat.{sub-zero}
+-- `value_row` meets its contract: the first row, and the links from there.
+use mathlib.Core.Path.{_≡_, sym, _∙_}
+use Prim.Native.Nat.{_-_, _<_}
 use native.Mathlib.Omega.{arith}
 use borrow.Author.Needs.{needs}
-use lib.Dec.{eqb}
-use Rattle.star_rows.specs.Rows.{wordOf}
-use Rattle.star_find.specs.Find.{kth}
-use Rattle.star_find.proofs.Looking.{kth-at, kth-over}
+use borrow.Author.Tests.{eq-eqb, ne-eqb}
+use Rattle.star_find.specs.Find.{refused, follow}
+use Rattle.star_find.proofs.Looking.{value-zero, value-first}
 use Rattle.star_find.proofs.value_row.Statement.{statement}
 use Rattle.star_find.proofs.value_row.Tie as tie
 
-abbrev Inv-loop : tie.InvT-loop
-Inv-loop values rows name k i₀ left₀ i left = (i ≤ rows) × (kth (λ row. eqb (wordOf values 3 row 0) name) left (rows - i) (i + 1) ≡ kth (λ row. eqb (wordOf values 3 row 0) name) k rows 1)
-
-abbrev μ-loop : tie.MeasureT-loop
-μ-loop values rows name k i₀ left₀ i left = rows - i
-
-loop-holds : tie.Need-loop-holds Inv-loop μ-loop
-loop-holds c = (omega arith, ap (λ n. kth (λ row. eqb (wordOf (c .before .args .values .now) 3 row 0) (c .before .args .name)) (c .before .args .k) n 1) (sub-zero (c .before .args .rows)))
-
-add-is-last : tie.Need-add-is-last Inv-loop μ-loop
-add-is-last c = omega (arith, c .before .before .before .fits .rows)
-
-is-last-requires : tie.Need-is-last-requires Inv-loop μ-loop
-is-last-requires c κs = search needs
-
-add-result : tie.Need-add-result Inv-loop μ-loop
-add-result c = omega (arith, c .before .before .before .before .before .fits .rows)
-
-returns : tie.Need-returns Inv-loop μ-loop
+returns : tie.Need-returns
+unfolding refused
 returns c =
-    sym (kth-at _ (c .before .before .before .loop .left) (c .before .before .before .before .before .args .rows) (c .before .before .before .loop .i) (omega arith) ∙ (rw (sym (c .before .is-last .ensures) ∙ c .if1 .taken)))
-    ∙ c .before .before .before .loop .inv .1
+    let a = c .before .before .args in
+    let none : a .k ≡ 0 = omega (arith, c .if1 .taken) in
+    sym (value-zero _ _ _ (a .k) none)
 
-add-left-after : tie.Need-add-left-after Inv-loop μ-loop
-add-left-after c = omega (arith, c .before .before .before .before .before .fits .rows)
+first-value-requires : tie.Need-first-value-requires
+first-value-requires c κs = search needs
 
-left-after-requires : tie.Need-left-after-requires Inv-loop μ-loop
-left-after-requires c κs = search needs
+returns-2 : tie.Need-returns-2
+unfolding refused
+returns-2 c =
+    let a = c .before .before .before .before .args in
+    let some : 0 < a .k = omega arith in
+    sym (value-first _ _ _ (a .k) some ∙ (rw (sym (c .before .first-value .ensures), eq-eqb _ 0 (c .if2 .taken))))
 
-add-i : tie.Need-add-i Inv-loop μ-loop
-add-i c = omega (arith, c .before .before .before .before .before .before .fits .rows)
+sub-links : tie.Need-sub-links
+sub-links c = omega arith
 
-loop-less : tie.Need-loop-less Inv-loop μ-loop
-loop-less c = omega arith
+follow-requires : tie.Need-follow-requires
+follow-requires c κs = search needs
 
-loop-again : tie.Need-loop-again Inv-loop μ-loop
-loop-again c =
-    let at-loop = c .before .before .before .before in
-    let start = at-loop .before .before in (
-      omega arith,
-      (rw (c .left-after .ensures)
-          (sym (kth-at _ (at-loop .loop .left) (start .args .rows) (at-loop .loop .i) (omega arith) ∙ (rw (sym (c .before .before .is-last .ensures) ∙ c .before .if1 .left)))
-          ∙ at-loop .loop .inv .1)),
-    )
-
-returns-2 : tie.Need-returns-2 Inv-loop μ-loop
-returns-2 c = sym (kth-over _ (c .before .loop .left) (c .before .before .before .args .rows) (c .before .loop .i) (omega arith)) ∙ c .before .loop .inv .1
+returns-3 : tie.Need-returns-3
+returns-3 c =
+    let at-first = c .before .before in
+    let a = at-first .before .before .before .args in
+    let some : 0 < a .k = omega arith in
+    let followed : c .follow .result ≡ follow (a .values .now) (a .rows) (a .name) (a .k - 1) (at-first .first-value .result) = c .follow .ensures in
+    followed ∙ sym (value-first _ _ _ (a .k) some ∙ (rw (sym (at-first .first-value .ensures), ne-eqb _ 0 (c .before .if2 .left))))
 
 pub value-row-spec : {M : Type 1} → statement M
 value-row-spec =
     tie.close
     (tie.spec
-    Inv-loop
-    μ-loop
-    loop-holds
-    add-is-last
-    is-last-requires
-    add-result
     returns
-    add-left-after
-    left-after-requires
-    add-i
-    loop-less
-    loop-again
-    returns-2)
+    first-value-requires
+    returns-2
+    sub-links
+    follow-requires
+    returns-3)

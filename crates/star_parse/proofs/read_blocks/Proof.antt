@@ -7,8 +7,9 @@ use Rattle.star_lex.specs.Rules.{today}
 use Rattle.star_grammar.specs.Tables.{noRows}
 use Rattle.star_grammar.specs.Machine.{start, run}
 use Rattle.star_parse.specs.Parsed.{kindTokens, fourTables}
-use Rattle.star_parse.specs.Reader.{Bounds, Comes}
+use Rattle.star_parse.specs.Reader.{Bounds, Between, Comes}
 use Rattle.star_parse.proofs.Ahead.{at-end, headed, headless}
+use Rattle.star_parse.proofs.Columns.{between-none}
 use Rattle.star_parse.proofs.Counted.{matches-none}
 use Rattle.star_parse.proofs.Refusing.{start-refuses}
 use Rattle.star_parse.proofs.Going.{comes, refused, whole-refused, accepts}
@@ -40,6 +41,7 @@ loop-holds c =
         rows = noRows;
         matches = matches-none _ _ f;
         left = ap (λ n. run today start (drop n (kindTokens (s .args .count) (s .args .tokens .now))) noRows) (f .at);
+        holds = between-none;
       }),
     )
 
@@ -99,7 +101,7 @@ returns-2 c =
     let e = c .before .before .before .before .sort-at .ensures .is in
     let none = headless _ (sym (c .before .before .block-kind .ensures) ∙ c .before .if3 .taken) in
     whole-refused _ _ _ _ (λ z. omega (arith, c .misplaced .ensures .refusal))
-    (refused _ _ _ {to = start} 8 (omega arith) (l .inv .5 .goes (c .before .before .before .before .before .if1 .taken))
+    (refused _ _ _ {to = start} {To = Between} 8 (omega arith) (l .inv .5 .goes (c .before .before .before .before .before .if1 .taken))
     (start-refuses _ (λ h. c .before .before .before .if2 .left (e ∙ h)) (λ h. none .0 (e ∙ h)) (λ h. none .1 (e ∙ h))) (c .misplaced .ensures))
 
 read-block-requires : tie.Need-read-block-requires Inv-loop μ-loop

@@ -3,6 +3,8 @@ use mathlib.Core.Path.{_≡_, refl, sym, _∙_}
 use mathlib.Core.Bool.{true, true≢false}
 use borrow.Author.Tests.{not-true, not-false}
 use lib.ListN.{length}
+use Rattle.star_grammar.specs.Tables.{linked}
+use Rattle.star_grammar.proofs.Linking.{length-linked}
 use Rattle.star_parse.specs.Parsed.{hasRows, rowsRun}
 use Rattle.star_parse.proofs.RunKinds.{has-rows-fits}
 use borrow.Author.Needs.{needs}
@@ -71,7 +73,7 @@ same-length-8 : tie.Need-same-length-8
 same-length-8 c = c .before .before .before .before .before .before .before .before .before .before .read-blocks .kept .1 .1 .1 .1 .1 .0
 
 returns-3 : tie.Need-returns-3
-unfolding rowsRun
+unfolding rowsRun linked
 returns-3 c =
     let blocks = c .before .before .before .before .before .before .before .before .before .before in
     let k = blocks .read-blocks .ensures .accepts (c .if2 .left) in (
@@ -81,7 +83,7 @@ returns-3 c =
         sets = k .matches .sets;
         names = k .matches .names;
         packets = k .matches .packets;
-        values = k .matches .values;
+        values = k .matches .values ∙ sym (length-linked 1 (k .rows .values));
         tables = k .matches .tables;
       }),
       λ none. absurd (true≢false (sym (has (guard blocks)) ∙ none)),

@@ -7,9 +7,9 @@ use lib.ListN.{length, getD, set, length-set}
 use Rattle.star_text.specs.Bytes.{mostBytes}
 use Rattle.star_grammar.specs.Machine.{Where, setOf, header}
 use Rattle.star_parse.specs.Parsed.{fourTables}
-use Rattle.star_parse.specs.Reader.{Ready, Passes}
+use Rattle.star_parse.specs.Reader.{Ready, PassesWith, Unvalued, nameAt}
 use Rattle.star_parse.proofs.Ahead.{ahead-is}
-use Rattle.star_parse.proofs.Headers.{outers, outers-length, outers-more, few-none, few-more, header-in, loop-in}
+use Rattle.star_parse.proofs.Headers.{outers, outers-length, outers-more, few-none, few-more, named-more, name-more, header-in, loop-in}
 use Rattle.star_parse.proofs.Refusing.{nameless-refuses, deepest-refuses}
 use Rattle.star_parse.proofs.Going.{refused, over-loop, over-level}
 use Rattle.star_parse.proofs.header.read_loop.Statement.{statement}
@@ -20,8 +20,9 @@ Inv-loop tokens count set names₀ packets₀ values₀ p₀ first counts₀ lev
     Ready count tokens p × (p₀ .at ≤ p .at) × (level < 8) × (length counts ≡ 8) × ((i : ℕ) → getD counts i 0 ≤ mostBytes)
     × (length names ≡ length names₀) × (length packets ≡ length packets₀) × (length values ≡ length values₀)
     × ((w : Where) (sets : List ℕ) → setOf w ≡ set
-    → Passes count tokens (header w first [] 0 0) p₀ (fourTables sets names₀ packets₀ values₀)
-    (header w first (outers level counts) 0 0) p (fourTables sets names packets values))
+    → PassesWith count tokens (header w first [] 0 0) (Unvalued first) p₀ (fourTables sets names₀ packets₀ values₀)
+    (header w first (outers level counts) 0 0) (Unvalued first) p (fourTables sets names packets values))
+    × ((i : ℕ) → i < level → 0 < getD counts i 0) × (nameAt first counts level ≡ p .names + 1)
 
 abbrev μ-loop : tie.MeasureT-loop
 μ-loop tokens count set names₀ packets₀ values₀ p₀ first counts₀ level₀ names packets values p counts level = 8 - level
@@ -33,8 +34,9 @@ add-first : tie.Need-add-first Inv-loop μ-loop
 add-first c = omega (arith, c .before .before .before .before .before .before .pre, c .before .opened .ensures)
 
 loop-holds : tie.Need-loop-holds Inv-loop μ-loop
+unfolding nameAt
 loop-holds c =
-    (omega (arith, c .before .before .before .before .before .before .pre, c .before .opened .ensures), omega arith, omega arith, refl, few-none, refl, refl, refl, λ w sets q before outcome a. a)
+    (omega (arith, c .before .before .before .before .before .before .pre, c .before .opened .ensures), omega arith, omega arith, refl, few-none, refl, refl, refl, λ w sets q before outcome a. a, λ i h. absurd (omega arith), refl)
 
 add-read-names : tie.Need-add-read-names Inv-loop μ-loop
 add-read-names c = omega arith
@@ -78,10 +80,11 @@ begin c = c .before .before .before .before .before .before .before .before .bef
 
 -- the names of a level, from the loop's beginning on
 named : (c : tie.After-struct-known2 Inv-loop μ-loop) (w : Where) (sets : List ℕ) → setOf w ≡ begin c .args .set
-    → Passes (begin c .args .count) (begin c .args .tokens .now) (header w (headed c .opened .result .names + 1) [] 0 0) (headed c .opened .result)
+    → PassesWith (begin c .args .count) (begin c .args .tokens .now) (header w (headed c .opened .result .names + 1) [] 0 0)
+    (Unvalued (headed c .opened .result .names + 1)) (headed c .opened .result)
     (fourTables sets (begin c .args .names .now) (begin c .args .packets .now) (begin c .args .values .now))
     (header w (headed c .opened .result .names + 1) (outers (turn c .loop .level) (turn c .loop .counts)) (level c .read-names .result .names - turn c .loop .p .names) 0)
-    (level c .read-names .result) (fourTables sets (level c .read-names .last .1 .1 .1 .1 .1 .0) (turn c .loop .packets) (turn c .loop .values))
+    (Unvalued (headed c .opened .result .names + 1)) (level c .read-names .result) (fourTables sets (level c .read-names .last .1 .1 .1 .1 .1 .0) (turn c .loop .packets) (turn c .loop .values))
 named c w sets q before outcome a =
     let l = turn c .loop in
     level c .read-names .ensures .goes w _ _ sets _ _ q (omega (arith, outers-length (l .counts) (l .level) 0 (l .inv .3) (l .inv .2))) before outcome
@@ -110,6 +113,9 @@ array-write-counts c = omega (arith, c .before .before .before .before .before .
 add-t24 : tie.Need-add-t24 Inv-loop μ-loop
 add-t24 c = omega (arith, c .before .before .before .before .before .before .before .before .loop .inv .2)
 
+array-read-t27 : tie.Need-array-read-t27 Inv-loop μ-loop
+array-read-t27 c = omega arith
+
 read-packets-requires : tie.Need-read-packets-requires Inv-loop μ-loop
 read-packets-requires c κs =
     let at-sort-at = c .before .before .before .before in
@@ -123,9 +129,12 @@ read-packets-requires c κs =
       (
         record { loop = λ h. c .before .before .if2 .taken (at-sort-at .sort-at .ensures .is ∙ h); name = level .ensures .last },
         (
-          loop-in (l .counts) (l .level) _ (l .inv .3) (l .inv .2) _ (l .inv .4) (omega (arith, level .ensures .ready))
-              (omega (arith, start .pre, at-opened .opened .ensures)),
-          record { level = refl; filled = refl; parent = refl },
+          loop-in (l .counts) (l .level) _ (l .inv .3) (l .inv .2) _ (l .inv .4) (omega (arith, level .ensures .ready)) (l .inv .9)
+              (omega (arith, c .before .before .before .if1 .left)) (omega (arith, start .pre, at-opened .opened .ensures)),
+          (
+            record { level = refl; filled = refl; parent = refl },
+            name-more (l .counts) (l .level) _ (l .inv .3) (l .inv .2) _ (level .result .names) (l .p .names) (l .inv .10) refl (level .ensures .counted),
+          ),
         ),
       ),
     )
@@ -229,6 +238,8 @@ loop-again c =
           rw (outers-more (l .counts) (l .level) n (l .inv .3) (l .inv .2))
           (over-level _ _ _ (named (c .before .before .before .before .before) w sets q before outcome a) (e .is) (omega (arith, c .before .before .before .if1 .left))
           (omega (arith, outers-length (l .counts) (l .level) 0 (l .inv .3) (l .inv .2), c .before .if3 .left, l .inv .2)) v),
+      λ i h. named-more (l .counts) (l .level) n (l .inv .3) (l .inv .2) (l .inv .9) (omega (arith, c .before .before .before .if1 .left)) i (omega (arith, h)),
+      name-more (l .counts) (l .level) n (l .inv .3) (l .inv .2) _ (level .result .names) (l .p .names) (l .inv .10) refl (level .ensures .counted) ∙ omega (arith, v .names),
     )
 
 pub read-loop-spec : {M : Type 1} → statement M
@@ -253,6 +264,7 @@ read-loop-spec =
     mul-counts
     array-write-counts
     add-t24
+    array-read-t27
     read-packets-requires
     same-length-4
     same-length-5

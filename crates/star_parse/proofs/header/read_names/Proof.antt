@@ -6,7 +6,7 @@ use native.Mathlib.Omega.{arith}
 use lib.ListN.{length}
 use Rattle.star_grammar.specs.Machine.{Where, setOf, header}
 use Rattle.star_parse.specs.Parsed.{fourTables}
-use Rattle.star_parse.specs.Reader.{Ready, Passes}
+use Rattle.star_parse.specs.Reader.{Ready, PassesWith, Unvalued}
 use Rattle.star_parse.proofs.Ahead.{ahead-is}
 use Rattle.star_parse.proofs.Going.{over-level-name}
 use Rattle.star_parse.proofs.header.read_names.Statement.{statement}
@@ -16,7 +16,8 @@ abbrev Inv-loop : tie.InvT-loop
 Inv-loop tokens count set level names₀ p₀ names p =
     Ready count tokens p × (p₀ .at ≤ p .at) × (p₀ .names ≤ p .names) × (length names ≡ length names₀)
     × ((w : Where) (first : ℕ) (outer : List ℕ) (sets packets values : List ℕ) → setOf w ≡ set → suc (length outer) ≡ level
-    → Passes count tokens (header w first outer 0 0) p₀ (fourTables sets names₀ packets values) (header w first outer (p .names - p₀ .names) 0) p
+    → PassesWith count tokens (header w first outer 0 0) (Unvalued first) p₀ (fourTables sets names₀ packets values)
+    (header w first outer (p .names - p₀ .names) 0) (Unvalued first) p
     (fourTables sets names packets values))
 
 abbrev μ-loop : tie.MeasureT-loop

@@ -1,13 +1,15 @@
 -- `read_packets` meets its contract: after the stops a header takes a value alone, which begins level 1, and level 1 ends where no value comes.
-use mathlib.Core.Path.{_∙_}
+use mathlib.Core.Path.{refl, _∙_}
 use mathlib.Core.List.{[]}
-use Prim.Native.Nat.{_-_}
+use Prim.Native.Nat.{ℕ, _-_}
 use native.Mathlib.Omega.{arith}
 use borrow.Author.Needs.{needs}
 use Rattle.star_parse.proofs.Ahead.{ahead-is, further-on}
 use Rattle.star_parse.proofs.Refusing.{closed-refuses}
+use Rattle.star_parse.proofs.Columns.{columns-none}
+use Rattle.star_parse.proofs.Headers.{zeros}
 use Rattle.star_parse.proofs.Levels.{outermost, around-none}
-use Rattle.star_parse.proofs.Going.{refused, begins, leaves}
+use Rattle.star_parse.proofs.Going.{becomes, refused, begins, leaves}
 use Rattle.star_parse.proofs.header.read_packets.Statement.{statement}
 use Rattle.star_parse.proofs.header.read_packets.Tie as tie
 
@@ -43,8 +45,14 @@ returns c =
           (c .misplaced .ensures);
     }
 
+slice-aggregate-read-level : tie.Need-slice-aggregate-read-level
+slice-aggregate-read-level c = search needs
+
 read-level-requires : tie.Need-read-level-requires
-read-level-requires c κs = search needs
+read-level-requires c κs =
+    let s = c .before .before .before .before .before .before .before .before .before .before in
+    let stops = c .before .before .before .before .before .read-stops in
+    (stops .ensures .ready, (s .pre .1 .1 .0, (s .pre .1 .1 .1 .0 .filled, refl)))
 
 same-length : tie.Need-same-length
 same-length c = search needs
@@ -54,18 +62,21 @@ same-length-2 c = search needs
 
 returns-2 : tie.Need-returns-2
 returns-2 c =
-    let s = c .before .before .before .before .before .before .before .before .before .before .before .before .before .before in
-    let stops = c .before .before .before .before .before .before .before .before .before .read-stops in
-    let level = c .before .before .before .before .read-level in
-    let e = ahead-is _ _ _ _ _ (c .before .before .before .before .before .before .before .before .sort-at .ensures) (c .before .before .before .before .before .before .before .if1 .left) (omega arith) in
+    let s = c .before .before .before .before .before .before .before .before .before .before .before .before .before .before .before .before in
+    let stops = c .before .before .before .before .before .before .before .before .before .before .before .read-stops in
+    let level = c .before .before .before .before .before .read-level in
+    let e = ahead-is _ _ _ _ _ (c .before .before .before .before .before .before .before .before .before .before .sort-at .ensures) (c .before .before .before .before .before .before .before .before .before .if1 .left) (omega arith) in
+    let first : ℕ = s .args .s .first in
     record {
       bounds = level .ensures .0 .bounds;
       further = omega (arith, stops .ensures .further, level .ensures .0 .further);
       goes = λ w outer n sets names h before outcome a.
-          let k = level .ensures .0 .goes w [] sets names (around-none (s .args .s) (s .pre .1 .1 .0) (s .pre .1 .1 .1)) before outcome
-          (begins _ _ _ (stops .ensures .goes w (s .args .s .first) outer n _ (h .some) (omega (arith, h .depth)) before outcome a) (e .is) (h .some)
-          (outermost (s .args .s) (s .pre .1 .1 .0) outer n (s .pre .1 .1 .1) h)) in
-          record { goes = λ q. leaves _ _ _ (k .goes q) (level .ensures .1 q); ends = k .ends };
+          let k = level .ensures .0 .goes w [] first sets names (around-none (s .args .s) (s .pre .1 .1 .0) (s .pre .1 .1 .1 .0)) before outcome
+          (becomes _ _ _
+          (λ rows m u. columns-none first (s .args .s .counts) (s .args .s .levels) _ rows (zeros 8) u (s .pre .1 .1 .1 .1 ∙ omega (arith, stops .ensures .names, m .names)))
+          (begins _ _ _ (stops .ensures .goes w first outer n _ (h .some) (omega (arith, h .depth)) before outcome a) (e .is) (h .some)
+          (outermost (s .args .s) (s .pre .1 .1 .0) outer n (s .pre .1 .1 .1 .0) h))) in
+          record { goes = λ q. becomes _ _ _ (λ rows m d. d .unvalued) (leaves _ _ _ (k .goes q) (level .ensures .1 q)); ends = k .ends };
     }
 
 pub read-packets-spec : {M : Type 1} → statement M
@@ -77,6 +88,7 @@ read-packets-spec =
     sort-at-requires
     misplaced-requires
     returns
+    slice-aggregate-read-level
     read-level-requires
     same-length
     same-length-2

@@ -1,5 +1,5 @@
 -- `read_stops` meets its contract: each turn passes one header stop, so that as many have come as tokens were passed.
-use mathlib.Core.Path.{_≡_, _∙_}
+use mathlib.Core.Path.{_≡_, refl, _∙_}
 use mathlib.Core.List.{List}
 use Prim.Native.Nat.{ℕ, _+_, _-_, _≤_, _<_}
 use native.Mathlib.Numerals.{add-one}
@@ -7,7 +7,7 @@ use native.Mathlib.Omega.{arith}
 use lib.ListN.{length}
 use Rattle.star_grammar.specs.Machine.{Where, header}
 use Rattle.star_parse.specs.Parsed.{FourTables}
-use Rattle.star_parse.specs.Reader.{Ready, Passes}
+use Rattle.star_parse.specs.Reader.{Ready, PassesWith, Unvalued}
 use Rattle.star_parse.proofs.Ahead.{ahead-is}
 use Rattle.star_parse.proofs.Going.{over-header-stop}
 use Rattle.star_parse.proofs.header.read_stops.Statement.{statement}
@@ -15,15 +15,15 @@ use Rattle.star_parse.proofs.header.read_stops.Tie as tie
 
 abbrev Inv-loop : tie.InvT-loop
 Inv-loop tokens count inner p₀ stops₀ p stops =
-    Ready count tokens p × (p .at ≡ p₀ .at + stops) × (stops ≤ inner)
+    Ready count tokens p × (p .at ≡ p₀ .at + stops) × (stops ≤ inner) × (p .names ≡ p₀ .names)
     × ((w : Where) (first : ℕ) (outer : List ℕ) (n : ℕ) (t : FourTables) → 0 < n → length outer ≡ inner
-    → Passes count tokens (header w first outer n 0) p₀ t (header w first outer n stops) p t)
+    → PassesWith count tokens (header w first outer n 0) (Unvalued first) p₀ t (header w first outer n stops) (Unvalued first) p t)
 
 abbrev μ-loop : tie.MeasureT-loop
 μ-loop tokens count inner p₀ stops₀ p stops = inner - stops
 
 loop-holds : tie.Need-loop-holds Inv-loop μ-loop
-loop-holds c = (c .before .pre, omega arith, omega arith, λ w first outer n t some e before outcome a. a)
+loop-holds c = (c .before .pre, omega arith, omega arith, refl, λ w first outer n t some e before outcome a. a)
 
 sort-at-requires : tie.Need-sort-at-requires Inv-loop μ-loop
 sort-at-requires c κs = c .before .loop .inv .0 .bounds .rows
@@ -36,8 +36,9 @@ returns c =
     record {
       ready = l .inv .0;
       further = omega (arith, l .inv .1);
+      names = l .inv .3;
       last = λ h. absurd (c .if1 .taken (c .before .sort-at .ensures .is ∙ h));
-      goes = λ w first outer n t some q before outcome a. rw e (l .inv .3 w first outer n t some q before outcome a);
+      goes = λ w first outer n t some q before outcome a. rw e (l .inv .4 w first outer n t some q before outcome a);
     }
 
 passed-requires : tie.Need-passed-requires Inv-loop μ-loop
@@ -57,8 +58,9 @@ loop-again c =
       omega (arith, l .inv .0, v, e .token),
       omega (arith, l .inv .1, v .at),
       omega arith,
+      omega (arith, l .inv .3, v .names),
       λ w first outer n t some q before outcome a.
-          rw (add-one (l .stops)) (over-header-stop _ _ _ (l .inv .3 w first outer n t some q before outcome a) (e .is) some (omega (arith, q)) v),
+          rw (add-one (l .stops)) (over-header-stop _ _ _ (l .inv .4 w first outer n t some q before outcome a) (e .is) some (omega (arith, q)) v),
     )
 
 returns-2 : tie.Need-returns-2 Inv-loop μ-loop
@@ -69,8 +71,9 @@ returns-2 c =
     record {
       ready = l .inv .0;
       further = omega (arith, l .inv .1);
+      names = l .inv .3;
       last = λ h. omega (arith, l .inv .1, c .loop-test .left);
-      goes = λ w first outer n t some q before outcome a. rw e (l .inv .3 w first outer n t some q before outcome a);
+      goes = λ w first outer n t some q before outcome a. rw e (l .inv .4 w first outer n t some q before outcome a);
     }
 
 pub read-stops-spec : {M : Type 1} → statement M
