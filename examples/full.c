@@ -1,8 +1,8 @@
 /*
  * Reads the full case, specification 15.1, through star.h and prints what came of it:
  * the counts, the five tables, each value of each name, the columns walked by their links,
- * its names compared, a value and a text as numbers, the plain form, and whether its names
- * and codes fit 32 bytes.
+ * its names compared, a value and a text as numbers, the plain form, whether its names and
+ * codes fit 32 bytes, and an index of its names, built, checked and looked up through.
  */
 #include <stdio.h>
 #include <string.h>
@@ -14,19 +14,21 @@ static const char file[] = "data_a\nloop_\n_x\nloop_\n_y\n1 2 3 stop_ 4 stop_\n"
 /* The bytes of the file, without the 0 that ends the string. */
 #define BYTES (sizeof(file) - 1)
 
-/* The tables, with room for any file of so many bytes, and the plain form. */
+/* The tables, with room for any file of so many bytes, the plain form and the index. */
 static uint32_t tokens[STAR_TOKENS_WORDS(BYTES)];
 static uint32_t sets[STAR_SETS_WORDS(BYTES)];
 static uint32_t names[STAR_NAMES_WORDS(BYTES)];
 static uint32_t packets[STAR_PACKETS_WORDS(BYTES)];
 static uint32_t values[STAR_VALUES_WORDS(BYTES)];
 static uint8_t plain[STAR_PLAIN_BYTES(BYTES)];
+static uint32_t slots[STAR_SLOTS_WORDS(BYTES)];
 
 #define FILE_RANGE (const uint8_t *)file, BYTES
 #define TABLES                                                                \
     tokens, STAR_TOKENS_WORDS(BYTES), sets, STAR_SETS_WORDS(BYTES),           \
         names, STAR_NAMES_WORDS(BYTES), packets, STAR_PACKETS_WORDS(BYTES),   \
         values, STAR_VALUES_WORDS(BYTES)
+#define SLOTS slots, STAR_SLOTS_WORDS(BYTES)
 
 static void print_table(const char *name, const uint32_t *words, uint32_t rows, uint32_t width)
 {
@@ -77,6 +79,25 @@ static void print_column(star_counts counts, uint32_t name_row)
     printf("\n");
 }
 
+/* Builds an index of the names, checks it, and finds a name of the block through it. */
+static void print_index(uint32_t block, const char *name)
+{
+    star_reading built = star_index_build(FILE_RANGE, TABLES, SLOTS);
+    printf("index in %u slots: refusal %u, place %u", (unsigned)STAR_SLOTS_WORDS(BYTES),
+           (unsigned)built.refusal, (unsigned)built.place);
+    for (size_t slot = 0; slot < STAR_SLOTS_WORDS(BYTES); slot++)
+        if (slots[slot] != 0)
+            printf("; name row %u in slot %u", (unsigned)slots[slot], (unsigned)slot);
+    printf("\n");
+
+    star_reading checked = star_index_check(FILE_RANGE, TABLES, SLOTS);
+    printf("index checked: refusal %u, place %u\n", (unsigned)checked.refusal,
+           (unsigned)checked.place);
+    star_found found = star_index_find(FILE_RANGE, TABLES, star_counts_of(checked), SLOTS, block,
+                                       (const uint8_t *)name, strlen(name));
+    printf("%s by the index is name row %u\n", name, (unsigned)found.row);
+}
+
 int main(void)
 {
     star_reading reading = star_read(FILE_RANGE, TABLES);
@@ -121,5 +142,7 @@ int main(void)
     star_checked checked = star_fits_32(FILE_RANGE, TABLES);
     printf("names and codes fit 32 bytes: %s, place %u\n", checked.yes ? "yes" : "no",
            (unsigned)checked.place);
+
+    print_index(block.row, "_y");
     return 0;
 }

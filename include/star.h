@@ -4,8 +4,9 @@
  * The library reads one STAR File from lent bytes into five lent tables of
  * 32-bit words, finds data blocks, save frames, names and values in them, names
  * of global blocks too, compares names and codes, answers values as numbers
- * with their uncertainties, writes the file's plain form, and answers whether
- * its names and codes keep the limit of older readers.
+ * with their uncertainties, writes the file's plain form, answers whether its
+ * names and codes keep the limit of older readers, and builds, checks and uses
+ * an index of its names.
  *
  * THE FIVE TABLES. Rows count from 1 and stand in file order. Offsets count
  * the file's bytes from 0; the end of a span is not included.
@@ -65,6 +66,25 @@
  * the first value on at each call. Asked for the n values of a column one after
  * the other they follow n * (n - 1) / 2 links, where a walk follows n - 1.
  *
+ * AN INDEX. An index is a lent range of 32-bit words, its slots, each of which
+ * holds a name row or 0. The hash of a name row is 32-bit FNV-1a (it begins at
+ * 2166136261, and each byte goes in by exclusive or and a multiplication by
+ * 16777619 modulo two to the 32) of the four bytes of the number of its set,
+ * lowest first, and then of the name, underscore included. Its home is the hash
+ * modulo the number of slots, which count from 0. Slots are an index of a file
+ * exactly when there are more of them than names, every name row is in just one
+ * slot, no other number but 0 occurs, and no slot from the home of a row to its
+ * own, round the end if needed, is 0.
+ *
+ * So a name is found by looking at its home and at the slots after it up to the
+ * first 0, and not at all name rows. star_index_build makes an index, and
+ * another program may make one by these rules. One that comes from elsewhere, or
+ * was stored beside its file, is checked by star_index_check before it is used:
+ * the file may have changed. With tables and slots as either of the two accepted
+ * them, star_index_find answers what star_find_name answers. With twice as many
+ * slots as names or more it looks at few of them; where nearly all are full, at
+ * many.
+ *
  * LINE ENDS. 13 directly followed by 10 is one line end, and so is each other
  * 10, 12 and 13. A ; at the start of a line or of the file opens a text field,
  * and the first line end that is directly followed by ; closes it: that line
@@ -83,7 +103,8 @@
  *   5    STAR_OPEN_QUOTE  quote not closed on its line                      the quote
  *   6    STAR_OPEN_TEXT   text field not closed, or byte after its          the opening ;
  *                         closing ;
- *   7    STAR_TOO_SHORT   table (or output) too short                       the table's number, 6 for the output
+ *   7    STAR_TOO_SHORT   table (or output) too short, or slots not more    the table's number, 6 for the output,
+ *                         than names                                        8 for the slots
  *   8    STAR_MISPLACED   token or end out of place                         its first byte, or the file's length
  *   9    STAR_TAKEN       name or code already taken                        first byte
  *   10   STAR_INCOMPLETE  packet not full, or inner level not closed        first byte, or the file's length
@@ -91,6 +112,7 @@
  *   13   STAR_NOT_FOUND   not found                                         0
  *   14   STAR_OUTSIDE     a number, row or link that points outside, or a   0
  *                         link to a row not later or not of the same name
+ *   15   STAR_NO_INDEX    slots are no index of the file's names            0
  *
  * 12 is not used: readers that do not know global blocks give it at global_.
  *
@@ -159,7 +181,8 @@ enum star_refusal {
     STAR_INCOMPLETE = 10,
     STAR_TOO_DEEP = 11,
     STAR_NOT_FOUND = 13,
-    STAR_OUTSIDE = 14
+    STAR_OUTSIDE = 14,
+    STAR_NO_INDEX = 15
 };
 
 /* The kinds of tokens. */
@@ -218,7 +241,8 @@ enum star_number_form {
 /*
  * ROOM FOR A FILE OF n BYTES. With STAR_TOKENS_WORDS(n) to STAR_VALUES_WORDS(n)
  * words lent, no table is too short for any file of n bytes, accepted or not,
- * and with STAR_PLAIN_BYTES(n) bytes no output is: refusal 7 is not answered.
+ * with STAR_PLAIN_BYTES(n) bytes no output is, and with STAR_SLOTS_WORDS(n) words
+ * there are more slots than names: refusal 7 is not answered.
  *
  * Each is a constant expression where n is one, may evaluate n more than once,
  * and is never 0: C has no arrays without elements, and malloc may answer a
@@ -250,6 +274,9 @@ enum star_number_form {
 #define STAR_PACKETS_WORDS(n) (STAR_MOST_PACKETS(n) * STAR_PACKETS_WIDTH)
 #define STAR_VALUES_WORDS(n) (STAR_MOST_VALUES(n) * STAR_VALUES_WIDTH)
 
+/* Twice as many slots as there may be names. */
+#define STAR_SLOTS_WORDS(n) (STAR_MOST_NAMES(n) * 2)
+
 /*
  * In the plain form each token has at most as many bytes as in the file and one
  * byte 10 after it, n + 1 at most together, and at most one byte more: a word
@@ -259,12 +286,12 @@ enum star_number_form {
  */
 #define STAR_PLAIN_BYTES(n) (STAR_READ_BYTES_(n) + 1 + STAR_MOST_TOKENS(n))
 
-/* What reading answers: the refusal and its place, and the rows in each table. */
+/* What reading, and building and checking an index, answer: the refusal and its place, and the rows in each table. */
 typedef struct {
     uint32_t refusal, place, tokens, sets, names, packets, values;
 } star_reading;
 
-/* The rows in each table, as a reading, a writing or a check answered them. */
+/* The rows in each table, as a reading, a writing, a check or the building of an index answered them. */
 typedef struct {
     uint32_t tokens, sets, names, packets, values;
 } star_counts;
@@ -541,6 +568,75 @@ star_checked star_fits_32(const uint8_t *file, size_t file_len,
                           uint32_t *names, size_t names_len,
                           uint32_t *packets, size_t packets_len,
                           uint32_t *values, size_t values_len);
+
+/*
+ * Reads a file and builds an index of its names in all slots that are lent: each
+ * name row, in order, goes to the first slot that holds 0 from its home on, round
+ * the end if needed. star_index_check accepts what is built.
+ *
+ * Refusals: those of star_read; then 7, place 8, if there are not more slots than
+ * names.
+ * Afterwards: accepted, each name row stands in one slot and the others are 0, the
+ * tables hold the reading as star_read leaves them, and the counts are answered.
+ * Refused, every slot and every word of every table is 0 and the counts are 0.
+ * What the slots held before never matters.
+ */
+star_reading star_index_build(const uint8_t *file, size_t file_len,
+                              uint32_t *tokens, size_t tokens_len,
+                              uint32_t *sets, size_t sets_len,
+                              uint32_t *names, size_t names_len,
+                              uint32_t *packets, size_t packets_len,
+                              uint32_t *values, size_t values_len,
+                              uint32_t *slots, size_t slots_len);
+
+/*
+ * Reads a file and checks that the slots are an index of its names, by the four
+ * conditions above. Without slots they are not, also where the file has no names.
+ *
+ * Refusals: those of star_read; then 15, place 0, if the slots are no index,
+ * whichever of the conditions they fail.
+ * Afterwards: accepted, the tables hold the reading as star_read leaves them, and
+ * the counts are answered. Refused, every word of every table is 0 and the counts
+ * are 0. The slots are as they were.
+ */
+star_reading star_index_check(const uint8_t *file, size_t file_len,
+                              uint32_t *tokens, size_t tokens_len,
+                              uint32_t *sets, size_t sets_len,
+                              uint32_t *names, size_t names_len,
+                              uint32_t *packets, size_t packets_len,
+                              uint32_t *values, size_t values_len,
+                              const uint32_t *slots, size_t slots_len);
+
+/*
+ * Finds a name of a set, underscore included, through the slots: from the home of
+ * the name in that set on, round the end if needed and each slot once, the first
+ * that holds a name row of that set whose token's content equals the name. Rows
+ * of other sets are passed over, and their tokens are not looked at. Where it is
+ * not found in a data block, the global blocks before it are searched in the same
+ * way, the nearest first, as in star_find_name, each from the home of the name in
+ * that global block.
+ *
+ * Tables, counts and slots may hold anything. With those that star_index_build or
+ * star_index_check accepted the answer is that of star_find_name.
+ *
+ * Refusals: 14 if any of the five counts is larger than its table holds, or the
+ * set is 0 or above the count of sets; then, slot by slot of the set that is
+ * searched, 13 at a slot that is 0, 14 at one above the count of names, and 14 at
+ * a name row of that set whose token row or span points outside as in
+ * star_find_block; 13 if no slot is left, and if there are no slots. After 14 no
+ * further set is searched; 13 is answered if it came of each of them. A refused
+ * lookup answers row 0.
+ * Afterwards: all lent memory is as it was.
+ */
+star_found star_index_find(const uint8_t *file, size_t file_len,
+                           const uint32_t *tokens, size_t tokens_len,
+                           const uint32_t *sets, size_t sets_len,
+                           const uint32_t *names, size_t names_len,
+                           const uint32_t *packets, size_t packets_len,
+                           const uint32_t *values, size_t values_len,
+                           star_counts counts,
+                           const uint32_t *slots, size_t slots_len, uint32_t set,
+                           const uint8_t *name, size_t name_len);
 
 #ifdef __cplusplus
 }

@@ -1,5 +1,5 @@
 //! Times reading and writing beside a plain copy of the same bytes, and lookups,
-//! columns and numbers.
+//! indexes, columns and numbers.
 //!
 //! `tackturnel-bench [case ...]` prints a table, each figure the best of
 //! several runs in MB/s, a megabyte being 1,000,000 bytes.
@@ -7,16 +7,23 @@
 //! of C's `strtod` on the same texts.
 //! `tackturnel-bench --lookups [case ...]` prints the time of a name's lookup, and
 //! of each name row that it passes.
+//! `tackturnel-bench --indexes [case ...]` prints of a name the time to read it, to
+//! read and build an index, to read and check it, and of its lookup through the index
+//! and without it.
 //! `tackturnel-bench --columns [case ...]` prints the time of a value of a column:
 //! to read it, to come to it by its link, to ask for it by its number.
 //! `tackturnel-bench --list` prints the cases, `--list numbers` those of numbers,
-//! `--list lookups` those of lookups, `--list columns` those of columns.
+//! `--list lookups` those of lookups, `--list indexes` those of indexes, `--list
+//! columns` those of columns.
 //! `tackturnel-bench --once case read|write|fits_32` makes everything ready and
 //! makes one call, for counting its instructions; it prints the file's bytes.
 //! `tackturnel-bench --once numbers-case number_of` makes one call for each text
 //! and prints how many there are.
 //! `tackturnel-bench --once lookup-case find_name` looks up each name of a case of
 //! 1,000 names and each 100th of one of 30,000, and prints how many that are.
+//! `tackturnel-bench --once index-case index_build|index_check|index_find|find_name`
+//! builds an index, checks it or looks names up through it or without it, and prints
+//! for how many names.
 //! `tackturnel-bench --once column-case read|walk|value_part` reads a column, walks
 //! down it or asks for each 1,000th of its values, and prints how many that are.
 
@@ -24,6 +31,7 @@
 
 mod cases;
 mod columns;
+mod indexes;
 mod lookups;
 mod numbers;
 #[allow(unsafe_code)]
@@ -143,10 +151,13 @@ fn main() {
         ["--list"] => CASES.iter().for_each(|case| println!("{}", case.0)),
         ["--list", "numbers"] => numbers::CASES.iter().for_each(|case| println!("{}", case.0)),
         ["--list", "lookups"] => lookups::CASES.iter().for_each(|case| println!("{}", case.name)),
+        ["--list", "indexes"] => indexes::CASES.iter().for_each(|case| println!("{}", case.name)),
         ["--list", "columns"] => columns::CASES.iter().for_each(|case| println!("{}", case.0)),
         ["--numbers", ref names @ ..] => numbers::times(names),
         ["--lookups", ref names @ ..] => lookups::times(names),
+        ["--indexes", ref names @ ..] => indexes::times(names),
         ["--columns", ref names @ ..] => columns::times(names),
+        ["--once", name, call] if name.starts_with("index-") => indexes::once(name, call),
         ["--once", name, "number_of"] => numbers::once(name),
         ["--once", name, "find_name"] => lookups::once(name),
         ["--once", name, call] if name.starts_with("column-") => columns::once(name, call),

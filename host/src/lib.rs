@@ -1,7 +1,7 @@
 //! The verified STAR File reader for Rust callers.
 //!
 //! [`star`] holds safe wrappers around the C interface of [`raw`], which also has
-//! its constants.
+//! its constants; [`index`] holds those of the calls for an index beside the names.
 //!
 //! ```
 //! use tackturnel::{raw, star, Tables, TablesMut};
@@ -21,6 +21,8 @@
 #![deny(unsafe_code)]
 #![warn(missing_docs)]
 
+#[allow(unsafe_code)]
+pub mod index;
 #[allow(unsafe_code)]
 pub mod raw;
 #[allow(unsafe_code)]

@@ -16,7 +16,7 @@ pub const STAR_TOO_LONG: u32 = 4;
 pub const STAR_OPEN_QUOTE: u32 = 5;
 /// A text field that is not closed, or closed before another byte.
 pub const STAR_OPEN_TEXT: u32 = 6;
-/// A table or output that is too short.
+/// A table or output that is too short, or slots that are not more than the names.
 pub const STAR_TOO_SHORT: u32 = 7;
 /// A token or the end out of place.
 pub const STAR_MISPLACED: u32 = 8;
@@ -32,6 +32,8 @@ pub const STAR_NOT_FOUND: u32 = 13;
 /// Lookup: a number, row or link that points outside, or a link to a row that is not
 /// later or not of the same name.
 pub const STAR_OUTSIDE: u32 = 14;
+/// Slots that are no index of the file's names.
+pub const STAR_NO_INDEX: u32 = 15;
 
 // ----------------------------------------------------------------- kinds
 
@@ -166,6 +168,12 @@ pub const fn star_packets_words(n: usize) -> usize {
 /// STAR_VALUES_WORDS: room for the values of any file of `n` bytes.
 pub const fn star_values_words(n: usize) -> usize {
     star_most_values(n) * STAR_VALUES_WIDTH
+}
+
+/// STAR_SLOTS_WORDS: room for an index of the names of any file of `n` bytes, twice as
+/// many slots as it may have names.
+pub const fn star_slots_words(n: usize) -> usize {
+    2 * star_most_names(n)
 }
 
 /// STAR_PLAIN_BYTES: room for the plain form of any file of `n` bytes. Each token
@@ -499,4 +507,62 @@ extern "C" {
         values: *mut u32,
         values_len: usize,
     ) -> Checked;
+
+    /// See include/star.h.
+    pub fn star_index_build(
+        file: *const u8,
+        file_len: usize,
+        tokens: *mut u32,
+        tokens_len: usize,
+        sets: *mut u32,
+        sets_len: usize,
+        names: *mut u32,
+        names_len: usize,
+        packets: *mut u32,
+        packets_len: usize,
+        values: *mut u32,
+        values_len: usize,
+        slots: *mut u32,
+        slots_len: usize,
+    ) -> Reading;
+
+    /// See include/star.h.
+    pub fn star_index_check(
+        file: *const u8,
+        file_len: usize,
+        tokens: *mut u32,
+        tokens_len: usize,
+        sets: *mut u32,
+        sets_len: usize,
+        names: *mut u32,
+        names_len: usize,
+        packets: *mut u32,
+        packets_len: usize,
+        values: *mut u32,
+        values_len: usize,
+        slots: *const u32,
+        slots_len: usize,
+    ) -> Reading;
+
+    /// See include/star.h.
+    pub fn star_index_find(
+        file: *const u8,
+        file_len: usize,
+        tokens: *const u32,
+        tokens_len: usize,
+        sets: *const u32,
+        sets_len: usize,
+        names: *const u32,
+        names_len: usize,
+        packets: *const u32,
+        packets_len: usize,
+        values: *const u32,
+        values_len: usize,
+        counts: Counts,
+        slots: *const u32,
+        slots_len: usize,
+        set: u32,
+        name: *const u8,
+        name_len: usize,
+    ) -> Found;
 }

@@ -176,7 +176,7 @@ macro_rules! fill {
     ($call:ident, $file:expr, $tables:expr $(, $more:expr)*) => {
         // SAFETY: every range is a slice, and those lent mutably are apart from all others.
         unsafe {
-            raw::$call(
+            $crate::raw::$call(
                 $file.as_ptr(),
                 $file.len(),
                 $tables.tokens.as_mut_ptr(),
@@ -194,6 +194,7 @@ macro_rules! fill {
         }
     };
 }
+pub(crate) use fill;
 
 /// Reads a file into the tables.
 pub fn read(file: &[u8], tables: TablesMut<'_>) -> Reading {
@@ -216,7 +217,7 @@ macro_rules! look {
     ($call:ident, $file:expr, $tables:expr, $counts:expr, $($more:expr),*) => {
         // SAFETY: every range is a slice, and the call writes to none of them.
         unsafe {
-            raw::$call(
+            $crate::raw::$call(
                 $file.as_ptr(),
                 $file.len(),
                 $tables.tokens.as_ptr(),
@@ -235,6 +236,7 @@ macro_rules! look {
         }
     };
 }
+pub(crate) use look;
 
 /// Finds the data block with this code; global blocks are not looked at.
 pub fn find_block(file: &[u8], tables: Tables<'_>, counts: Counts, code: &[u8]) -> Found {

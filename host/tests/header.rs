@@ -21,10 +21,10 @@ macro_rules! constants {
     ($($name:ident)*) => { [$((stringify!($name), raw::$name as u64)),*] };
 }
 
-const CONSTANTS: [(&str, u64); 46] = constants! {
+const CONSTANTS: [(&str, u64); 47] = constants! {
     STAR_OK STAR_TOO_LARGE STAR_BAD_BYTE STAR_BAD_WORD STAR_TOO_LONG STAR_OPEN_QUOTE
     STAR_OPEN_TEXT STAR_TOO_SHORT STAR_MISPLACED STAR_TAKEN STAR_INCOMPLETE STAR_TOO_DEEP
-    STAR_NOT_FOUND STAR_OUTSIDE
+    STAR_NOT_FOUND STAR_OUTSIDE STAR_NO_INDEX
     STAR_TOKEN_BLOCK STAR_TOKEN_FRAME STAR_TOKEN_FRAME_END STAR_TOKEN_LOOP STAR_TOKEN_STOP
     STAR_TOKEN_NAME STAR_TOKEN_WORD STAR_TOKEN_REFERENCE STAR_TOKEN_SINGLE_QUOTED
     STAR_TOKEN_DOUBLE_QUOTED STAR_TOKEN_TEXT STAR_TOKEN_GLOBAL
@@ -40,7 +40,7 @@ const CONSTANTS: [(&str, u64); 46] = constants! {
 type Room = fn(usize) -> usize;
 
 /// The macros of a file's length, and the functions here that say the same.
-const ROOM: [(&str, Room); 11] = [
+const ROOM: [(&str, Room); 12] = [
     ("STAR_MOST_TOKENS", raw::star_most_tokens),
     ("STAR_MOST_SETS", raw::star_most_sets),
     ("STAR_MOST_NAMES", raw::star_most_names),
@@ -51,6 +51,7 @@ const ROOM: [(&str, Room); 11] = [
     ("STAR_NAMES_WORDS", raw::star_names_words),
     ("STAR_PACKETS_WORDS", raw::star_packets_words),
     ("STAR_VALUES_WORDS", raw::star_values_words),
+    ("STAR_SLOTS_WORDS", raw::star_slots_words),
     ("STAR_PLAIN_BYTES", raw::star_plain_bytes),
 ];
 
@@ -112,7 +113,7 @@ static unsigned long column(uint32_t name_row)
 /// The walk down a column that the header shows.
 fn shown_walk() -> String {
     let (_, after) = HEADER.split_once(" * COLUMNS.").expect("the header speaks of columns");
-    let (text, _) = after.split_once(" * LINE ENDS.").expect("line ends come next");
+    let (text, _) = after.split_once(" * AN INDEX.").expect("the index comes next");
     let lines = text.lines().filter_map(|line| line.strip_prefix(" *   "));
     lines.flat_map(|line| [line, "\n"]).collect()
 }

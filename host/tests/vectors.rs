@@ -3,16 +3,17 @@
 use std::collections::HashSet;
 use std::process::Command;
 
-use tackturnel::{raw, star, Counts, NumberForm, Reading, Tables, TablesMut, Written};
+use tackturnel::{index, raw, star, Counts, NumberForm, Reading, Tables, TablesMut, Written};
 use tackturnel_tests_support::notation::{
-    checked_vectors, escaped, name_vectors, number_vectors, vectors, NameVector,
+    built_vectors, checked_vectors, escaped, name_vectors, number_vectors, slot_vectors, vectors,
+    IndexVector, NameVector,
 };
 use tackturnel_tests_support::reference;
 
 /// The answers of reading and writing on a file, tables of 900 words and an output of
 /// 2,000 bytes, all filled with 7s before.
 fn answers(file: &[u8]) -> (Reading, [Vec<u32>; 5], Written, Vec<u8>) {
-    let mut tables: [Vec<u32>; 5] = std::array::from_fn(|_| vec![7; 900]);
+    let mut tables = filled_tables();
     let mut written_tables = tables.clone();
     let mut out = vec![7; 2000];
     let reading = star::read(file, TablesMut::of(&mut tables));
@@ -93,11 +94,57 @@ fn vectors_of_checks_are_answered() {
     assert_eq!(list.len(), 25);
     for vector in list {
         let shown = format!("line {}: {}", vector.line, escaped(&vector.file));
-        let mut tables: [Vec<u32>; 5] = std::array::from_fn(|_| vec![7; 900]);
+        let mut tables = filled_tables();
         let checked = star::fits_32(&vector.file, TablesMut::of(&mut tables));
         assert_eq!(checked, vector.answer, "{shown}");
         let (reading, read_tables, ..) = answers(&vector.file);
         assert_eq!((checked.reading(), tables), (reading, read_tables), "{shown}");
+    }
+}
+
+/// Tables of 900 words each, filled with 7s.
+fn filled_tables() -> [Vec<u32>; 5] {
+    std::array::from_fn(|_| vec![7; 900])
+}
+
+/// The tables hold the reading of an accepted file, and 0 where it is refused.
+fn holds_reading(vector: &IndexVector, answer: Reading, tables: &[Vec<u32>; 5], shown: &str) {
+    assert_eq!((answer.refusal, answer.place), (vector.refusal, vector.place), "{shown}");
+    match vector.refusal {
+        0 => {
+            let (reading, read_tables, ..) = answers(&vector.file);
+            assert_eq!((answer, tables), (reading, &read_tables), "{shown}");
+        }
+        refusal => {
+            let place = vector.place;
+            assert_eq!(answer, Reading { refusal, place, ..Reading::default() }, "{shown}");
+            assert!(tables.iter().flatten().all(|&word| word == 0), "{shown}");
+        }
+    }
+}
+
+#[test]
+fn vectors_of_built_indexes_are_answered() {
+    let list = built_vectors(include_str!("../vectors/107.txt"));
+    assert_eq!(list.len(), 54);
+    for vector in list {
+        let shown = format!("line {}: {}", vector.line, escaped(&vector.file));
+        let (mut tables, mut slots) = (filled_tables(), vec![7; vector.slots.len()]);
+        let answer = index::build(&vector.file, TablesMut::of(&mut tables), &mut slots);
+        assert_eq!(slots, vector.slots, "{shown}");
+        holds_reading(&vector, answer, &tables, &shown);
+    }
+}
+
+#[test]
+fn vectors_of_checked_indexes_are_answered() {
+    let list = slot_vectors(include_str!("../vectors/107-check.txt"));
+    assert_eq!(list.len(), 14);
+    for vector in list {
+        let shown = format!("line {}: {}", vector.line, escaped(&vector.file));
+        let mut tables = filled_tables();
+        let answer = index::check(&vector.file, TablesMut::of(&mut tables), &vector.slots);
+        holds_reading(&vector, answer, &tables, &shown);
     }
 }
 
@@ -480,6 +527,16 @@ fn constants_name_the_answers() {
         let mut tables = star::room(file.len()).map(|words| vec![7; words]);
         let checked = star::fits_32(file.as_bytes(), TablesMut::of(&mut tables));
         assert_eq!((checked.refusal, checked.yes), (raw::STAR_OK, yes), "{file}");
+    }
+
+    let file = name(9);
+    for (slots, answer) in [(1, (raw::STAR_TOO_SHORT, 8)), (2, (raw::STAR_OK, 0))] {
+        let mut tables = star::room(file.len()).map(|words| vec![7; words]);
+        let mut index = vec![7; slots];
+        let built = index::build(file.as_bytes(), TablesMut::of(&mut tables), &mut index);
+        assert_eq!((built.refusal, built.place), answer, "{slots} slots");
+        let checked = index::check(file.as_bytes(), TablesMut::of(&mut tables), &vec![0; slots]);
+        assert_eq!(checked.refusal, raw::STAR_NO_INDEX, "{slots} slots");
     }
 
     let file = b"data_a save_f save_ loop_ _x loop_ _y w stop_ $f stop_ 's' stop_ \"d\" stop_\n;t\n; stop_ global_";

@@ -20,10 +20,15 @@ use Rattle.star_number.proofs.InOrder.{numbers-in-order, numbers-answer}
 use Rattle.star_write.proofs.Demand1.{write-answers}
 use Rattle.star_write.proofs.RoundTrip.{round-trip, writes-again}
 use Rattle.star_check.proofs.OldBench.{fits-32, fits-32-no, fits-answers}
-use Rattle.star.specs.Demands.{Demand1, Demand2, Demand3, Numbers, LineEnds, Comparisons, LongerNames, Columns}
+use Rattle.star_index.proofs.Exactly.{index-exactly}
+use Rattle.star_index.proofs.IndexLookup.{index-lookup}
+use Rattle.star_index.proofs.Building.{index-built}
+use Rattle.star_index.proofs.Known.{index-known}
+use Rattle.star_index.proofs.Answering.{index-answers}
+use Rattle.star.specs.Demands.{Demand1, Demand2, Demand3, Numbers, LineEnds, Comparisons, LongerNames, Columns, Indexes}
 
 pub demand-1 : Demand1
-demand-1 = (read-answers, lookups-answer, values-answer, numbers-answer, write-answers, fits-answers)
+demand-1 = (read-answers, lookups-answer, values-answer, numbers-answer, write-answers, fits-answers, index-answers)
 
 pub demand-2 : Demand2
 demand-2 = (today-usable, rows-of-reading, lookup-block, lookup-frame, values-in-order, span-part, round-trip, writes-again)
@@ -57,3 +62,6 @@ longer-names = (refl, refl, old-files-read-as-before, old-bench-refuses, old-ben
 
 pub column : Columns
 column = links-column
+
+pub indexes : Indexes
+indexes = (index-exactly, index-lookup, index-built, index-known)

@@ -10,11 +10,13 @@ use Rattle.star_find.specs.Demands.{LookupByName, LookupBlock, LookupFrame, Val
 use Rattle.star_number.specs.Demands.{NumberExact, NumberPieces, WholeExact, PowerExact, RoundedOnce, FloatsFinite, NumbersKnown, NumbersInOrder, NumbersAnswer}
 use Rattle.star_write.specs.Demands.{RoundTrip, WritesAgain, WriteAnswers}
 use Rattle.star_check.specs.Demands.{Fits32, Fits32No, FitsAnswers}
+use Rattle.star_index.specs.Known.{IndexKnown}
+use Rattle.star_index.specs.Demands.{IndexExactly, IndexLookup, IndexBuilt, IndexAnswers}
 
 -- for every input of every call the number is 0 or one that the call may give, with its place in range; on a refusal what was lent for writing is 0,
--- and so are counts, length, kind, packet, row and yes; reading, writing and the check answer 0 only with a reading
+-- and so are counts, length, kind, packet, row and yes; reading, writing, the checks and the builder of an index answer 0 only with a reading
 abbrev pub Demand1 : Type 0
-Demand1 = ReadAnswers × LookupsAnswer × ValuesAnswer × NumbersAnswer × WriteAnswers × FitsAnswers
+Demand1 = ReadAnswers × LookupsAnswer × ValuesAnswer × NumbersAnswer × WriteAnswers × FitsAnswers × IndexAnswers
 
 -- an accepted file gives the rows of its reading; data blocks, frames and values are found in them, each value as that part of the file; the plain form
 -- reads back the same, and is written again as the same bytes
@@ -53,3 +55,8 @@ LongerNames = (today .longest ≡ 75) × (oldBench .longest ≡ 32) × OldFilesR
 -- nothing else
 abbrev pub Columns : Type 0
 Columns = Column
+
+-- specification 14.14 and 19: the check accepts exactly the indexes of what is read; with one of them lookup through it gives the plain lookup's answer; what is built is one, and it is built exactly
+-- where there are more slots than names; and the known hashes and indexes
+abbrev pub Indexes : Type 0
+Indexes = IndexExactly × IndexLookup × IndexBuilt × IndexKnown

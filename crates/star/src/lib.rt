@@ -13,6 +13,8 @@ ghost use mathlib.Core.Path.{_≡_};
 ghost use Rattle.star_text.specs.Compare.{compareOf};
 ghost use Rattle.star_read.specs.Answer.{tables, Reads};
 ghost use Rattle.star_find.specs.Find.{lent, findBlock, findFrame, findName, valueAt, valueSpan};
+ghost use Rattle.star_index.specs.Index.{Checks, Builds};
+ghost use Rattle.star_index.specs.Lookup.{findSlot};
 ghost use Rattle.star_number.specs.Taken.{numberIn};
 ghost use Rattle.star_number.specs.Forms.{formOf, valueNumber, valueFormOf};
 ghost use Rattle.star_write.specs.Answer.{Writes};
@@ -230,4 +232,72 @@ pub extern "C" fn star_fits_32(
         (tables (now (tokens .exit)) (now (sets .exit)) (now (names .exit)) (now (packets .exit)) (now (values .exit))) r ⌝ }
 {
     star_check::fits_32(file, tokens, sets, names, packets, values)
+}
+
+// Reads a file into the five tables and builds an index of its names in the slots. On a refusal counts, tables and slots are all 0.
+#[no_mangle]
+pub extern "C" fn star_index_build(
+    file: &[u8],
+    tokens: &mut [u32],
+    sets: &mut [u32],
+    names: &mut [u32],
+    packets: &mut [u32],
+    values: &mut [u32],
+    slots: &mut [u32],
+) -> Answer
+    ensures { λ r. ⌜ Builds (now (file .entry))
+        (tables (now (tokens .entry)) (now (sets .entry)) (now (names .entry)) (now (packets .entry)) (now (values .entry)))
+        (tables (now (tokens .exit)) (now (sets .exit)) (now (names .exit)) (now (packets .exit)) (now (values .exit)))
+        (now (slots .entry)) (now (slots .exit)) r ⌝ }
+{
+    star_index::build(file, tokens, sets, names, packets, values, slots)
+}
+
+// Reads a file into the five tables and checks that the slots are an index of its names. On a refusal counts and tables are all 0; the slots are not written.
+#[no_mangle]
+pub extern "C" fn star_index_check(
+    file: &[u8],
+    tokens: &mut [u32],
+    sets: &mut [u32],
+    names: &mut [u32],
+    packets: &mut [u32],
+    values: &mut [u32],
+    slots: &[u32],
+) -> Answer
+    ensures { λ r. ⌜ Checks (now (file .entry)) (now (slots .entry))
+        (tables (now (tokens .entry)) (now (sets .entry)) (now (names .entry)) (now (packets .entry)) (now (values .entry)))
+        (tables (now (tokens .exit)) (now (sets .exit)) (now (names .exit)) (now (packets .exit)) (now (values .exit))) r ⌝ }
+{
+    star_index::check(file, tokens, sets, names, packets, values, slots)
+}
+
+// The name of a set with these bytes, through the slots, or for a data block one of the nearest earlier global block that does not answer 13.
+#[no_mangle]
+pub extern "C" fn star_index_find(
+    file: &[u8],
+    tokens: &[u32],
+    sets: &[u32],
+    names: &[u32],
+    packets: &[u32],
+    values: &[u32],
+    counts: Counts,
+    slots: &[u32],
+    set: u32,
+    name: &[u8],
+) -> Found
+    ensures { λ r. ⌜ r ≡ findSlot (lent (now (file .entry)) (now (tokens .entry)) (now (sets .entry)) (now (names .entry)) (now (packets .entry))
+        (now (values .entry))) counts (now (slots .entry)) set (now (name .entry)) ⌝ }
+{
+    star_index::find(
+        file,
+        tokens,
+        sets,
+        names,
+        packets,
+        values,
+        counts,
+        slots,
+        set,
+        name,
+    )
 }

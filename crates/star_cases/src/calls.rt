@@ -64,7 +64,7 @@ pub fn write(file: &[u8], size: u32) {
 }
 
 // The five counts, as lookup takes them.
-fn counts(kept: &[u32]) -> Counts {
+pub fn counts(kept: &[u32]) -> Counts {
     Counts {
         tokens: kept::word(kept, 1),
         sets: kept::word(kept, 2),
@@ -75,7 +75,7 @@ fn counts(kept: &[u32]) -> Counts {
 }
 
 // Prints what a lookup found.
-fn print_found(found: Found) {
+pub fn print_found(found: Found) {
     print::bar();
     print::two(found.refusal, found.row);
 }

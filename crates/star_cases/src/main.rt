@@ -6,13 +6,18 @@
 //     fits FILE               reads a file into the tables that are lent and asks whether its names and codes have at most 32 bytes; 1 for yes, 0 for no
 //     write N                 writes the plain form of the last file into N bytes
 //     set T I W               makes word I of table T, counted from 0, be W; words 1 to 5 of table 0 are the five counts, and words 6 to 10 how
-//                             many words of each table are lent
+//                             many words of each table are lent; the slots of an index are table 6, and word 11 of table 0 is how many are lent
 //     look SET NAME K BYTES   looks for the data block, the frame of a set and the name of a set with these bytes, and for the k-th value of a name row
 //     pairs A B               compares two contents; 1 where they are equal, else 0, and how many pairs of bytes were compared
 //     number KIND CONTENT     takes a content of a kind as a number; the floats are printed by their bits
 //     value NAME K            the k-th value of a name row as a number, in the tables that are lent
+//     build N                 reads the last file into the tables that are lent and builds an index of it in N slots
+//     index W W ..            reads the last file into the tables that are lent and checks that these slots are an index of it
+//     ask SET BYTES           looks for the name of a set with these bytes through the slots that are lent, and without them
+//     hash BYTES              the hash of these bytes
 // Any other line is a remark.
 mod calls;
+mod index;
 mod plain;
 
 use star_show::kept;
@@ -72,6 +77,13 @@ fn run_number(given: &[u8]) {
     calls::number(given, words::first(&content, size));
 }
 
+// Takes the hash of what is given.
+fn run_hash(given: &[u8]) {
+    let mut bytes = words::room();
+    let size = notation::unescape(given, &mut bytes);
+    index::hash(words::first(&bytes, size));
+}
+
 // Does what a line says with what it is given, over the last file.
 fn run_on(line: &[u8], given: &[u8], file: &[u8], kept: &mut [u32]) {
     match words::byte(line, 0) {
@@ -85,6 +97,10 @@ fn run_on(line: &[u8], given: &[u8], file: &[u8], kept: &mut [u32]) {
         b'p' => run_pairs(given),
         b'n' => run_number(given),
         b'v' => calls::value(given, file, kept),
+        b'b' => index::build(file, words::number(given), kept),
+        b'i' => index::check(given, file, kept),
+        b'a' => index::ask(given, file, kept),
+        b'h' => run_hash(given),
         _ => {}
     }
 }

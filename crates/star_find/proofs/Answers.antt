@@ -17,7 +17,7 @@ member-place {x = x} d (List·Memᴰ·tail {xs = xs} m) =
     let k : (i : ℕ) × (i < length xs) × (getD xs i d ≡ x) = member-place d m in
     (suc (k .0), omega (arith, k .1), k .2)
 
-place-member {ℓ} : {A : Type ℓ} (xs : List A) (i : ℕ) (d : A) → i < length xs → List·Memᴰ (getD xs i d) xs
+pub place-member {ℓ} : {A : Type ℓ} (xs : List A) (i : ℕ) (d : A) → i < length xs → List·Memᴰ (getD xs i d) xs
 place-member [] i d h = absurd (omega arith)
 place-member (x ∷ xs) zero d h = List·Memᴰ·head refl
 place-member (x ∷ xs) (suc i) d h = List·Memᴰ·tail (place-member xs i d (omega arith))

@@ -20,15 +20,15 @@ use Rattle.star_find.specs.declared.Value.{Value}
 use Rattle.star_find.specs.declared.Span.{Span}
 use Rattle.star_find.proofs.Looking.{Inside, part-inside, Locates, locates}
 
-answer-cond : {rows : ℕ} {a b : Found} (t : Bool) → RowAnswer rows a → RowAnswer rows b → RowAnswer rows (cond t a b)
+pub answer-cond : {rows : ℕ} {a b : Found} (t : Bool) → RowAnswer rows a → RowAnswer rows b → RowAnswer rows (cond t a b)
 answer-cond true p q = p
 answer-cond false p q = q
 
-outside : {rows : ℕ} → RowAnswer rows (refused 14)
+pub outside : {rows : ℕ} → RowAnswer rows (refused 14)
 unfolding refused
 outside = RowAnswer.outside
 
-meet-answers : (rows row : ℕ) → 1 ≤ row → row ≤ rows → (wanted : List ℕ) (o : Option (List ℕ)) {others : Found} → RowAnswer rows others
+pub meet-answers : (rows row : ℕ) → 1 ≤ row → row ≤ rows → (wanted : List ℕ) (o : Option (List ℕ)) {others : Found} → RowAnswer rows others
     → RowAnswer rows (meet wanted row o others)
 unfolding meet found
 meet-answers rows row low high wanted none p = outside
@@ -62,7 +62,7 @@ module _ {rows : ℕ} (sets : List ℕ) (ask : ℕ → Found) (each : (set : ℕ
   globals-answer (suc n) =
       answer-cond (eqb (wordOf sets 3 (suc n) 0) 3) (or-answers (ask (suc n)) (askGlobals sets ask n) (each (suc n)) (globals-answer n)) (globals-answer n)
 
-  on-answers : (set : ℕ) → RowAnswer rows (askOn sets ask set)
+  pub on-answers : (set : ℕ) → RowAnswer rows (askOn sets ask set)
   unfolding askOn refused
   on-answers set =
       or-answers (ask set) _ (each set) (answer-cond (eqb (wordOf sets 3 set 0) 1) (globals-answer (set - 1)) RowAnswer.nowhere)

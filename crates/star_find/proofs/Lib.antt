@@ -5,6 +5,7 @@ pub mod Seeking
 pub mod Answers
 pub mod Numbered
 pub mod After
+pub mod Distinct
 pub mod Links
 pub mod Values
 pub mod Lookup

@@ -60,7 +60,7 @@ numbered-append sets (xs ∷ xss) yss =
     (sym (append-assoc (of (suc sets) xs) (numbered (suc sets) xss) (numbered (suc sets + length xss) yss)))
 
 -- an element of one set's list
-of-member : {s set : ℕ} {n : List ℕ} (names : List (List ℕ)) → List·Memᴰ (s, n) (of set names) → (s ≡ set) × List·Memᴰ n names
+pub of-member : {s set : ℕ} {n : List ℕ} (names : List (List ℕ)) → List·Memᴰ (s, n) (of set names) → (s ≡ set) × List·Memᴰ n names
 of-member {s} {set} {n} names m =
     let k : (a : List ℕ) × List·Memᴰ a names × (_≡_ {A = ℕ × List ℕ} (set, a) (s, n)) = Memᴰ·of-map (λ a. (set, a)) names m in
     (sym (ap (λ p. p .0) (k .2)), Memᴰ·cast (sym (ap (λ p. p .1) (k .2))) (k .1))
@@ -74,7 +74,7 @@ pub record InSet (sets : ℕ) (xss : List (List (List ℕ))) (set : ℕ) (x : Li
   pub high : set ≤ sets + length xss
   pub holds : List·Memᴰ x (getD xss (set - suc sets) [])
 
-numbered-in : (sets : ℕ) (xss : List (List (List ℕ))) (set : ℕ) (x : List ℕ) → List·Memᴰ (set, x) (numbered sets xss) → InSet sets xss set x
+pub numbered-in : (sets : ℕ) (xss : List (List (List ℕ))) (set : ℕ) (x : List ℕ) → List·Memᴰ (set, x) (numbered sets xss) → InSet sets xss set x
 numbered-in sets [] set x m = absurd (List·Memᴰ·not-nil m)
 numbered-in sets (xs ∷ xss) set x m = ⊎-elim here (λ n. further (numbered-in (suc sets) xss set x n)) (List·Memᴰ·append-cases (of (suc sets) xs) m)
   where
@@ -96,13 +96,13 @@ in-numbered sets (xs ∷ xss) (suc i) x m =
     rw (add-suc (suc sets) i, ← suc-add (suc sets) i) (Memᴰ·append-right (of (suc sets) xs) (in-numbered (suc sets) xss i x m))
 
 -- names
-frames-count : (ms : List Member) → length (flatMap frameNames ms) ≡ length (flatMap frameCodes ms)
+pub frames-count : (ms : List Member) → length (flatMap frameNames ms) ≡ length (flatMap frameCodes ms)
 unfolding flatMap frameNames frameCodes
 frames-count [] = refl
 frames-count (own e ∷ ms) = frames-count ms
 frames-count (framed f ∷ ms) = ap suc (frames-count ms)
 
-members-numbered : (block sets : ℕ) (ms : List Member)
+pub members-numbered : (block sets : ℕ) (ms : List Member)
     → Alike (membersNames block sets ms) (of block (flatMap ownNames ms) ++ numbered sets (flatMap frameNames ms))
 unfolding flatMap ownNames frameNames frameCodes
 members-numbered block sets [] = alike-same []
@@ -119,7 +119,7 @@ members-numbered block sets (framed f ∷ ms) =
     (alike-trans (after-same names (members-numbered block (suc sets) ms))
     (exchange names (of block (flatMap ownNames ms)) (numbered (suc sets) (flatMap frameNames ms))))
 
-names-numbered : (sets : ℕ) (f : File) → Alike (fileNames sets f) (numbered sets (flatMap blockNames f))
+pub names-numbered : (sets : ℕ) (f : File) → Alike (fileNames sets f) (numbered sets (flatMap blockNames f))
 unfolding flatMap blockNames
 names-numbered sets [] = alike-same []
 names-numbered sets (b ∷ f) =

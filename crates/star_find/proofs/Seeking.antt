@@ -84,7 +84,7 @@ module _ (isOne : ℕ → Bool) (content : ℕ → Option (List ℕ)) (wanted : 
       byRow true e false d later = rw (e, inside at (omega arith), d) (later (λ p. same-false _ _ d (p .1)))
       byRow false e s d later = rw e (later (λ p. impossible (cc (p .0))))
 
-  seek-sought : Sought (Hit isOne contents wanted) n (seek isOne content wanted n 1)
+  pub seek-sought : Sought (Hit isOne contents wanted) n (seek isOne content wanted n 1)
   seek-sought = seek-from n 0 (omega arith) (λ j l p. omega arith)
 
 -- the words of a row that is asked for, by its first and, by parent, its third

@@ -99,7 +99,7 @@ fn is_row(count: u32, row: u32) -> bool
 }
 
 // Whether no count is larger than its table holds, and a row number is a row of so many.
-fn row_there(
+pub fn row_there(
     file: &[u8],
     tokens: &[u32],
     sets: &[u32],
@@ -173,7 +173,7 @@ fn is_wanted(table: &[u32], row: u32, w: Wanted) -> bool
 }
 
 // How a row of a table compares by the token in its second word.
-fn compare_row(
+pub fn compare_row(
     file: &[u8],
     tokens: &[u32],
     count: u32,

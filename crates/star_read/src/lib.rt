@@ -133,7 +133,7 @@ pub fn clear_tables(
 }
 
 // A refusal: every word of every table is 0.
-fn refuse(
+pub fn refuse(
     tokens: &mut [u32],
     sets: &mut [u32],
     names: &mut [u32],

@@ -16,7 +16,7 @@ fn hex(n: u64) -> u8 {
 }
 
 // Writes a number as sixteen hexadecimal digits.
-fn show_hex(n: u64) {
+pub fn show_hex(n: u64) {
     let mut left = n;
     let mut digits: u32 = 0;
     while digits < 16 {

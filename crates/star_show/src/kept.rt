@@ -1,5 +1,5 @@
-// What reading left in the five tables, kept in six rows of 1,024 words: in row 1 word t is the count of table t and word 5 + t is how many words of
-// it are lent; its words stand in row t + 1.
+// What reading left in the five tables, and the slots of an index, kept in seven rows of 1,024 words: in row 1 word t is the count of table t and word
+// 5 + t is how many words of it are lent; its words stand in row t + 1. The slots are kept as table 6, which has no count.
 use crate::print;
 use crate::table;
 use crate::table::FILLED;
@@ -8,11 +8,11 @@ use star_read::Answer;
 ghost use mathlib.Core.Path.{_≡_};
 ghost use lib.ListN.{length};
 
-// Room for what reading leaves, with 1,024 words lent of each table.
-pub fn room() -> [u32; 6144]
-    ensures { λ r. ⌜ 6144 ≡ length r ⌝ }
+// Room for what is kept, with 1,024 words lent of each table.
+pub fn room() -> [u32; 7168]
+    ensures { λ r. ⌜ 7168 ≡ length r ⌝ }
 {
-    [1024; 6144]
+    [1024; 7168]
 }
 
 // A word of row 1.
@@ -98,6 +98,17 @@ pub fn keep_tables(
     table::copy(kept, 3072, names);
     table::copy(kept, 4096, packets);
     table::copy(kept, 5120, values);
+}
+
+// Keeps slots, so many of them lent.
+pub fn keep_slots(kept: &mut [u32], slots: &[u32], lent: u32) {
+    table::copy(kept, 11, &[lent]);
+    table::copy(kept, 6144, slots);
+}
+
+// Prints the slots that are lent.
+pub fn print_slots(kept: &[u32]) {
+    print::rows(lent(kept, 6), 1024, 1024);
 }
 
 // Reads a file into tables of as many words as are lent, none of them 0 before, and keeps what is left.

@@ -81,6 +81,23 @@ pub fn number(line: &[u8]) -> u32 {
     n
 }
 
+// Writes a number at a place of a table, if it fits.
+fn put(table: &mut [u32], at: u32, n: u32) {
+    table::copy(table, at as usize, &[n]);
+}
+
+// Writes the numbers that the words of a line stand for to a table, as far as it has room, and answers how many there are.
+pub fn numbers(line: &[u8], table: &mut [u32]) -> u32 {
+    let mut at = 0;
+    let mut count = 0;
+    while at < line.len() {
+        put(table, count, number(&line[at..]));
+        count = std::num::wrapping_add_u32(count, 1);
+        at = bytes::scan::find(line, at, line.len(), b' ') + 1;
+    }
+    count
+}
+
 // Prints a line, but of a case its file alone.
 pub fn show(line: &[u8]) {
     if byte(line, 0) == b'c' {

@@ -1,7 +1,8 @@
-//! Files and tables to compare readers on, all from seeds.
+//! Files, tables and slots to compare readers on, all from seeds.
 
 pub mod columns;
 pub mod globals;
+pub mod indexes;
 pub mod numbers;
 pub mod pairs;
 pub mod twins;

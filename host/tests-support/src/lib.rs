@@ -1,14 +1,16 @@
 //! What tests the STAR File reader from outside.
 //!
 //! [`reference`] is a plain reader of its own, written from the specification
-//! alone, and [`number`] its numbers; [`generate`] makes files, tables and
-//! numbers to compare the two on, and [`notation`] prints them. Of the package
+//! alone, [`number`] its numbers and [`index`] its index beside the names;
+//! [`generate`] makes files, tables, slots and numbers to compare the two on, and
+//! [`notation`] prints them. Of the package
 //! under test only the types that calls take and answer are used here.
 
 #![forbid(unsafe_code)]
 #![warn(missing_docs)]
 
 pub mod generate;
+pub mod index;
 pub mod notation;
 pub mod number;
 pub mod reference;

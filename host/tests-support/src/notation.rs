@@ -165,6 +165,53 @@ fn name_vector(line: usize, text: &str) -> NameVector {
     }
 }
 
+/// A file, and what is expected of an index of its names: built, or checked.
+#[derive(Clone, Debug)]
+pub struct IndexVector {
+    /// The line of the vector in its list, from 1.
+    pub line: usize,
+    /// The file's bytes.
+    pub file: Vec<u8>,
+    /// The refusal, 0 when accepted.
+    pub refusal: u32,
+    /// The place of the refusal.
+    pub place: u32,
+    /// The slots that the builder leaves, or that are checked.
+    pub slots: Vec<u32>,
+}
+
+/// The vectors of a list of indexes that are built; its first line says how it is written.
+pub fn built_vectors(list: &str) -> Vec<IndexVector> {
+    let lines = list.lines().enumerate().skip(1);
+    lines.map(|(at, line)| built_vector(at + 1, line)).collect()
+}
+
+fn built_vector(line: usize, text: &str) -> IndexVector {
+    let fields: Vec<&str> = text.split(" | ").collect();
+    assert_eq!(fields.len(), 4, "line {line}: four fields");
+    let vector = index_vector(line, fields[0], fields[2], fields[3]);
+    let count: usize = fields[1].parse().expect("a number of slots");
+    assert_eq!(vector.slots.len(), count, "line {line}: so many slots");
+    vector
+}
+
+/// The vectors of a list of slots that are checked; its first line says how it is written.
+pub fn slot_vectors(list: &str) -> Vec<IndexVector> {
+    let lines = list.lines().enumerate().skip(1);
+    lines.map(|(at, line)| slot_vector(at + 1, line)).collect()
+}
+
+fn slot_vector(line: usize, text: &str) -> IndexVector {
+    let fields: Vec<&str> = text.split(" | ").collect();
+    assert_eq!(fields.len(), 3, "line {line}: three fields");
+    index_vector(line, fields[0], fields[2], fields[1])
+}
+
+fn index_vector(line: usize, file: &str, answer: &str, slots: &str) -> IndexVector {
+    let [refusal, place]: [u32; 2] = numbers(answer).try_into().expect("two numbers");
+    IndexVector { line, file: unescaped(file), refusal, place, slots: numbers(slots) }
+}
+
 /// A content and the number that is expected for it.
 #[derive(Clone, Debug)]
 pub struct NumberVector {

@@ -18,7 +18,7 @@ use crate::{MOST_BYTES, MOST_NAME_BYTES, OLD_NAME_BYTES, WIDTHS};
 /// A refusal's number and place.
 #[derive(Clone, Copy, Debug, PartialEq, Eq)]
 pub struct Refusal {
-    /// Its number, 1 to 14.
+    /// Its number, 1 to 15.
     pub number: u32,
     /// Its place.
     pub place: usize,
@@ -508,7 +508,7 @@ pub fn fits_32(file: &[u8], room: [usize; 5]) -> (Checked, [Vec<u32>; 5]) {
 }
 
 /// The tables with 0 in every word after the last row.
-fn padded(mut tables: [Vec<u32>; 5], room: [usize; 5]) -> [Vec<u32>; 5] {
+pub(crate) fn padded(mut tables: [Vec<u32>; 5], room: [usize; 5]) -> [Vec<u32>; 5] {
     for (table, room) in tables.iter_mut().zip(room) {
         table.resize(room, 0);
     }
@@ -528,7 +528,7 @@ fn accepted(tables: &[Vec<u32>; 5]) -> Reading {
     }
 }
 
-fn refused(refusal: Refusal) -> Reading {
+pub(crate) fn refused(refusal: Refusal) -> Reading {
     Reading { refusal: refusal.number, place: refusal.place as u32, ..Reading::default() }
 }
 
@@ -591,7 +591,7 @@ pub fn write(file: &[u8], room: [usize; 5], out: usize) -> (Written, [Vec<u32>; 
 
 /// Whether every count is within what its table holds.
 /// choice: all five are checked in every lookup
-fn counts_hold(tables: Tables<'_>, counts: Counts) -> bool {
+pub(crate) fn counts_hold(tables: Tables<'_>, counts: Counts) -> bool {
     let holds = |count: u32, table: &[u32], width: usize| count as usize <= table.len() / width;
     holds(counts.tokens, tables.tokens, 3)
         && holds(counts.sets, tables.sets, 3)
@@ -601,12 +601,12 @@ fn counts_hold(tables: Tables<'_>, counts: Counts) -> bool {
 }
 
 /// Whether a row number is one of a table with this count.
-fn within(row: u32, count: u32) -> bool {
+pub(crate) fn within(row: u32, count: u32) -> bool {
     1 <= row && row <= count
 }
 
 /// The kind and the part of a token row, if the row and its span are inside.
-fn token_part(
+pub(crate) fn token_part(
     file: &[u8],
     tables: Tables<'_>,
     counts: Counts,
@@ -672,8 +672,14 @@ pub fn find_name(file: &[u8], tables: Tables<'_>, counts: Counts, set: u32, name
         let own = names.filter(|(_, row)| row[0] == set);
         first_equal(file, tables, counts, own.map(|(at, row)| (at, row[1])), name)
     };
+    own_or_global(tables.sets, set, of)
+}
+
+/// What a set answers or, where a data block answers 13, the earlier global blocks, the
+/// nearest first.
+pub(crate) fn own_or_global(sets: &[u32], set: u32, of: impl Fn(u32) -> Found) -> Found {
     // choice: the kind word of a set's row decides, whatever its heading and parent
-    let kind = |set: u32| tables.sets[3 * (set as usize - 1)];
+    let kind = |set: u32| sets[3 * (set as usize - 1)];
     let mut answer = of(set);
     if kind(set) == 1 {
         for earlier in (1..set).rev().filter(|&earlier| kind(earlier) == 3) {

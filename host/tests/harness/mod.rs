@@ -3,6 +3,8 @@
 // each of the tests uses a part of this
 #![allow(dead_code)]
 
+pub mod indexes;
+
 use std::env;
 use std::fmt::{Debug, Write};
 use std::sync::OnceLock;
@@ -393,7 +395,7 @@ pub fn fits_into(seed: u64, file: &[u8], room: [usize; 5]) -> Result<Checked, St
 // ---------------------------------------------------------------- lookups
 
 /// How often each refusal was answered.
-pub type Tally = [u64; 15];
+pub type Tally = [u64; 16];
 
 /// A file and its tables as the reference reads them, with words to spare.
 pub fn handed(file: &[u8], spare: usize) -> Handed {

@@ -1,0 +1,6 @@
+pub mod Hash
+pub mod Index
+pub mod Lookup
+pub mod Inner
+pub mod Known
+pub mod Demands
