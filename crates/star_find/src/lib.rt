@@ -144,7 +144,7 @@ pub fn part<'a, 'b>(file: &'a [u8], tokens: &'b [u32], count: u32, row: u32) -> 
 }
 
 // How the content of a token row compares with these bytes.
-fn compare(file: &[u8], tokens: &[u32], count: u32, row: u32, wanted: &[u8]) -> Match
+pub fn compare(file: &[u8], tokens: &[u32], count: u32, row: u32, wanted: &[u8]) -> Match
     ensures { λ r. ⌜ r ≡ matchOf (now (wanted .entry)) (contentAt (now (file .entry)) (now (tokens .entry)) count row) ⌝ }
 {
     if !has_part(file, tokens, count, row) {
@@ -173,7 +173,7 @@ fn is_wanted(table: &[u32], row: u32, w: Wanted) -> bool
 }
 
 // How a row of a table compares by the token in its second word.
-pub fn compare_row(
+fn compare_row(
     file: &[u8],
     tokens: &[u32],
     count: u32,

@@ -2,17 +2,17 @@
 use star_find::Counts;
 use star_find::Found;
 use star_find::Match;
-use star_find::Wanted;
 use star_read::Answer;
 ghost use mathlib.Core.Path.{_≡_};
 ghost use mathlib.Core.Bool.{true, false, cond};
 ghost use Prim.Native.Nat.{ℕ, suc, _+_, _-_, _*_, _≤_, _<_};
 ghost use lib.Dec.{eqb, ltb};
 ghost use lib.ListN.{length, getD, set as List·set};
-ghost use Rattle.star_rows.specs.Widths.{setWidth};
+ghost use Rattle.star_rows.specs.Widths.{setWidth, nameWidth};
 ghost use Rattle.star_rows.specs.Rows.{wordOf};
 ghost use Rattle.star_read.specs.Answer.{tables};
-ghost use Rattle.star_find.specs.Find.{lent, refused, contentAt, isWanted, askGlobals, askOn};
+ghost use Rattle.star_find.specs.Find.{lent, refused, contentAt, isWanted, matchOf, askGlobals, askOn};
+ghost use Rattle.star_find.specs.declared.Match.the-variants.{Other};
 ghost use Rattle.star_index.specs.Hash.{prime, product, mixed, fnv as Hash·fnv, hashOf, homeOf};
 ghost use Rattle.star_index.specs.Index.{slotAt, JustOne, isIndexed, nextSlot, firstFree, filled, Checks, Builds};
 ghost use Rattle.star_index.specs.Lookup.{probe as Lookup·probe, slotAsk, findSlot};
@@ -108,6 +108,26 @@ fn slot_refusal(rows: u32, row: u32) -> u32
     0
 }
 
+// How a name row compares: one of another set is not looked at.
+fn compare_name(
+    file: &[u8],
+    tokens: &[u32],
+    count: u32,
+    names: &[u32],
+    row: u32,
+    set: u32,
+    bytes: &[u8],
+) -> Match
+    ensures { λ r. ⌜ r ≡ cond (isWanted (now (names .entry)) nameWidth set false 0 row)
+        (matchOf (now (bytes .entry)) (contentAt (now (file .entry)) (now (tokens .entry)) count (wordOf (now (names .entry)) nameWidth row 1))) Other ⌝ }
+{
+    if star_rows::word(names, star_rows::NAME_WIDTH, row, 0) != set {
+        return Match::Other;
+    }
+    let token = star_rows::word(names, star_rows::NAME_WIDTH, row, 1);
+    star_find::compare(file, tokens, count, token, bytes)
+}
+
 // The row of a set with these bytes, from a home slot round once: 13 at a 0 or when no slot is left, 14 at a number above the name count or at a row
 // of that set that points outside.
 fn probe(
@@ -117,13 +137,13 @@ fn probe(
     names: &[u32],
     rows: u32,
     slots: &[u32],
-    w: Wanted,
+    set: u32,
     home: usize,
     bytes: &[u8],
 ) -> Found
     requires { ⌜ home < length (now slots) ⌝ }
-    ensures { λ r. ⌜ r ≡ Lookup·probe (now (slots .entry)) rows (isWanted (now (names .entry)) (w .width) (w .first) (w .«by_parent») (w .parent))
-        (λ row. contentAt (now (file .entry)) (now (tokens .entry)) count (wordOf (now (names .entry)) (w .width) row 1)) (now (bytes .entry))
+    ensures { λ r. ⌜ r ≡ Lookup·probe (now (slots .entry)) rows (isWanted (now (names .entry)) nameWidth set false 0)
+        (λ row. contentAt (now (file .entry)) (now (tokens .entry)) count (wordOf (now (names .entry)) nameWidth row 1)) (now (bytes .entry))
         (length (now (slots .entry))) home ⌝ }
 {
     let mut at = home;
@@ -134,7 +154,7 @@ fn probe(
         if refusal != 0 {
             return Found { refusal, row: 0 };
         }
-        match star_find::compare_row(file, tokens, count, names, row, w, bytes) {
+        match compare_name(file, tokens, count, names, row, set, bytes) {
             Match::Outside => {
                 return Found {
                     refusal: 14,
@@ -175,14 +195,8 @@ fn ask(
             row: 0,
         };
     }
-    let wanted = Wanted {
-        width: star_rows::NAME_WIDTH,
-        first: set,
-        by_parent: false,
-        parent: 0,
-    };
     let home = home_of(slots.len(), set, name);
-    probe(file, tokens, count, names, rows, slots, wanted, home, name)
+    probe(file, tokens, count, names, rows, slots, set, home, name)
 }
 
 // What a set answers where it is a global block; else 13.

@@ -1,5 +1,6 @@
 -- `probe` meets its contract: the answer from a slot on is the answer from the home on.
 use mathlib.Core.Path.{_≡_, refl, sym, _∙_}
+use mathlib.Core.Bool.{false}
 use mathlib.Core.List.{List}
 use Prim.Native.Nat.{ℕ, _-_, _<_}
 use native.Mathlib.Omega.{arith}
@@ -7,7 +8,6 @@ use borrow.Author.Needs.{needs}
 use lib.ListN.{length, getD}
 use Rattle.star_rows.specs.Rows.{wordOf}
 use Rattle.star_find.specs.Find.{isWanted, contentAt, found, refused}
-use Rattle.star_find.specs.declared.Wanted.{Wanted}
 use Rattle.star_find.specs.declared.Found.{Found}
 use Rattle.star_find.specs.declared.Match.{Match}
 use Rattle.star_find.proofs.Looking.{decided}
@@ -18,16 +18,16 @@ use Rattle.star_index.proofs.probe.Statement.{statement}
 use Rattle.star_index.proofs.probe.Tie as tie
 
 -- the answer of so many slots from one on, and what a slot decides
-abbrev from : (file tokens : List ℕ) (count : ℕ) (names : List ℕ) (rows : ℕ) (slots : List ℕ) (w : Wanted) (bytes : List ℕ) (left at : ℕ) → Found
-from file tokens count names rows slots w bytes left at =
-    probe slots rows (isWanted names (w .width) (w .first) (w .«by_parent») (w .parent)) (λ row. contentAt file tokens count (wordOf names (w .width) row 1)) bytes left at
+abbrev from : (file tokens : List ℕ) (count : ℕ) (names : List ℕ) (rows : ℕ) (slots : List ℕ) (set : ℕ) (bytes : List ℕ) (left at : ℕ) → Found
+from file tokens count names rows slots set bytes left at =
+    probe slots rows (isWanted names 4 set false 0) (λ row. contentAt file tokens count (wordOf names 4 row 1)) bytes left at
 
 abbrev Inv-loop : tie.InvT-loop
-Inv-loop file tokens count names rows slots w home bytes at₀ left₀ at left =
-    (at < length slots) × (from file tokens count names rows slots w bytes left at ≡ from file tokens count names rows slots w bytes (length slots) home)
+Inv-loop file tokens count names rows slots set home bytes at₀ left₀ at left =
+    (at < length slots) × (from file tokens count names rows slots set bytes left at ≡ from file tokens count names rows slots set bytes (length slots) home)
 
 abbrev μ-loop : tie.MeasureT-loop
-μ-loop file tokens count names rows slots w home bytes at₀ left₀ at left = left
+μ-loop file tokens count names rows slots set home bytes at₀ left₀ at left = left
 
 loop-holds : tie.Need-loop-holds Inv-loop μ-loop
 loop-holds c = (c .before .before .before .before .before .pre, refl)
@@ -47,20 +47,20 @@ returns c =
     let at = c .before .before .before .before .loop in
     sym (probe-stop _ _ _ _ _ (at .left) (at .at) (omega arith) (c .before .slot-refusal .ensures) (c .if1 .taken)) ∙ at .inv .1
 
-compare-row-requires : tie.Need-compare-row-requires Inv-loop μ-loop
-compare-row-requires c κs = search needs
+compare-name-requires : tie.Need-compare-name-requires Inv-loop μ-loop
+compare-name-requires c κs = search needs
 
 -- the slot that was compared decides
-turn : (c : tie.After-compare-row Inv-loop μ-loop) {m : Match} → c .compare-row .result ≡ m
+turn : (c : tie.After-compare-name Inv-loop μ-loop) {m : Match} → c .compare-name .result ≡ m
     → let a = c .before .before .before .before .before .before .before .before .before .before .before .args in
     let at = c .before .before .before .before .before .loop in
     decided m (getD (a .slots .now) (at .at) 0)
-    (from (a .file .now) (a .tokens .now) (a .count) (a .names .now) (a .rows) (a .slots .now) (a .w) (a .bytes .now) (at .left - 1) (nextSlot (length (a .slots .now)) (at .at)))
-    ≡ from (a .file .now) (a .tokens .now) (a .count) (a .names .now) (a .rows) (a .slots .now) (a .w) (a .bytes .now) (length (a .slots .now)) (a .home)
+    (from (a .file .now) (a .tokens .now) (a .count) (a .names .now) (a .rows) (a .slots .now) (a .set) (a .bytes .now) (at .left - 1) (nextSlot (length (a .slots .now)) (at .at)))
+    ≡ from (a .file .now) (a .tokens .now) (a .count) (a .names .now) (a .rows) (a .slots .now) (a .set) (a .bytes .now) (length (a .slots .now)) (a .home)
 turn c e =
     let at = c .before .before .before .before .before .loop in
     let held = slot-held (c .before .before .before .before .before .before .before .before .before .before .before .args .rows) (getD (c .before .before .before .before .before .before .before .before .before .before .before .args .slots .now) (at .at) 0) (sym (c .before .before .slot-refusal .ensures) ∙ c .before .if1 .left) in
-    sym (probe-row _ _ _ _ _ (at .left) (at .at) (omega arith) (held .0) (held .1) (sym (c .compare-row .ensures) ∙ e)) ∙ at .inv .1
+    sym (probe-row _ _ _ _ _ (at .left) (at .at) (omega arith) (held .0) (held .1) (sym (c .compare-name .ensures) ∙ e)) ∙ at .inv .1
 
 enum-told : tie.Need-enum-told Inv-loop μ-loop
 enum-told c = search needs
@@ -106,7 +106,7 @@ probe-spec =
     shared-slice-read-row
     slot-refusal-requires
     returns
-    compare-row-requires
+    compare-name-requires
     enum-told
     returns-2
     enum-told-2
