@@ -18,9 +18,11 @@ bench=${CARGO_TARGET_DIR:-$here/target}/release/tackturnel-bench
 work=$(mktemp -d)
 trap 'rm -rf "$work"' EXIT
 
-# The walk down a column by its links is a function of the program itself.
+# The walk down a column by its links is a function of the program itself; a call on the
+# file of 1991 is the call without that number.
 entry() {
     case $1 in
+        *_1991) echo "star_${1%_1991}" ;;
         walk) echo 'tackturnel_bench::columns::walk' ;;
         *) echo "star_$1" ;;
     esac

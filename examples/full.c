@@ -2,7 +2,8 @@
  * Reads the full case, specification 15.1, through star.h and prints what came of it:
  * the counts, the five tables, each value of each name, the columns walked by their links,
  * its names compared, a value and a text as numbers, the plain form, whether its names and
- * codes fit 32 bytes, and an index of its names, built, checked and looked up through.
+ * codes fit 32 bytes, an index of its names, built, checked and looked up through, and a
+ * file of the layout of 1991, read and converted to today's and back.
  */
 #include <stdio.h>
 #include <string.h>
@@ -10,6 +11,9 @@
 #include "star.h"
 
 static const char file[] = "data_a\nloop_\n_x\nloop_\n_y\n1 2 3 stop_ 4 stop_\n";
+
+/* A file of the layout of 1991, in which stop_ closes a save frame. */
+static const char old_file[] = "data_a save_f\nloop_ _x 1 2\nstop_\n_x 3\n";
 
 /* The bytes of the file, without the 0 that ends the string. */
 #define BYTES (sizeof(file) - 1)
@@ -22,6 +26,11 @@ static uint32_t packets[STAR_PACKETS_WORDS(BYTES)];
 static uint32_t values[STAR_VALUES_WORDS(BYTES)];
 static uint8_t plain[STAR_PLAIN_BYTES(BYTES)];
 static uint32_t slots[STAR_SLOTS_WORDS(BYTES)];
+
+/* The bytes of the file of 1991, which are fewer, and room for what is made of it. */
+#define OLD_BYTES (sizeof(old_file) - 1)
+static uint8_t today[STAR_PLAIN_BYTES(OLD_BYTES)];
+static uint8_t back[STAR_PLAIN_BYTES(OLD_BYTES)];
 
 #define FILE_RANGE (const uint8_t *)file, BYTES
 #define TABLES                                                                \
@@ -98,9 +107,37 @@ static void print_index(uint32_t block, const char *name)
     printf("%s by the index is name row %u\n", name, (unsigned)found.row);
 }
 
+/* Prints what came of a conversion, and the plain form, each byte 10 as /. */
+static void print_converted(const char *to, star_written written, const uint8_t *form)
+{
+    printf("converted to %s: refusal %u, place %u, %u bytes: ", to, (unsigned)written.refusal,
+           (unsigned)written.place, (unsigned)written.length);
+    for (uint32_t at = 0; at < written.length; at++)
+        putchar(form[at] == 10 ? '/' : form[at]);
+    printf("\n");
+}
+
+/* Reads the file of 1991 in both layouts, and converts it to today's and back. */
+static void print_layouts(void)
+{
+    const uint8_t *old = (const uint8_t *)old_file;
+    for (uint32_t layout = STAR_LAYOUT_TODAY; layout <= STAR_LAYOUT_1991 + 1; layout++) {
+        star_reading reading = star_read(old, OLD_BYTES, layout, TABLES);
+        printf("file of 1991 in layout %u: refusal %u, place %u, sets %u, names %u\n", (unsigned)layout,
+               (unsigned)reading.refusal, (unsigned)reading.place, (unsigned)reading.sets,
+               (unsigned)reading.names);
+    }
+    star_written over = star_convert(old, OLD_BYTES, STAR_LAYOUT_1991, TABLES,
+                                     today, sizeof(today));
+    print_converted("today's layout", over, today);
+    star_written again = star_convert(today, over.length, STAR_LAYOUT_TODAY, TABLES,
+                                      back, sizeof(back));
+    print_converted("the layout of 1991", again, back);
+}
+
 int main(void)
 {
-    star_reading reading = star_read(FILE_RANGE, TABLES);
+    star_reading reading = star_read(FILE_RANGE, STAR_LAYOUT_TODAY, TABLES);
     printf("refusal %u, place %u\n", (unsigned)reading.refusal, (unsigned)reading.place);
     if (reading.refusal != STAR_OK)
         return 1;
@@ -144,5 +181,6 @@ int main(void)
            (unsigned)checked.place);
 
     print_index(block.row, "_y");
+    print_layouts();
     return 0;
 }

@@ -4,9 +4,9 @@
  * The library reads one STAR File from lent bytes into five lent tables of
  * 32-bit words, finds data blocks, save frames, names and values in them, names
  * of global blocks too, compares names and codes, answers values as numbers
- * with their uncertainties, writes the file's plain form, answers whether its
- * names and codes keep the limit of older readers, and builds, checks and uses
- * an index of its names.
+ * with their uncertainties, writes the file's plain form, reads the layout of
+ * 1991 and converts between it and today's, answers whether names and codes keep
+ * the limit of older readers, and builds, checks and uses an index of the names.
  *
  * THE FIVE TABLES. Rows count from 1 and stand in file order. Offsets count
  * the file's bytes from 0; the end of a span is not included.
@@ -34,6 +34,21 @@
  * takes the names that it does not have from the global blocks before it, the
  * nearest first (star_find_name). Save frames and global blocks take nothing.
  *
+ * LAYOUTS. In today's layout save_ alone closes a save frame. In the layout of
+ * 1991 stop_ closes it: outside the header of a loop, stop_ closes the open inner
+ * level if there is one, else the frame. In a header it is a header stop and
+ * never closes a frame. save_ alone is always out of place in that layout. All
+ * else is the same, and a file is refused by the rules of the layout that it is
+ * read in. The stop_ that closes a frame is a token of kind 5.
+ *
+ *   no.  constant           what closes a save frame
+ *   0    STAR_LAYOUT_TODAY  save_
+ *   1    STAR_LAYOUT_1991   stop_
+ *
+ * star_read and star_convert take the number of the layout that is read. Every
+ * other call that reads a file reads today's. Lookups are the same in tables of
+ * either.
+ *
  * COLUMNS. The values of a name are a column. They stand among those of the
  * other names, and the fourth word of each value row links it to the next of
  * its column. So a caller goes down a column in one pass: the first value row
@@ -52,15 +67,15 @@
  *       row = value[3];
  *   }
  *
- * In tables that a reading, a writing or a check accepted, with its counts, that
- * visits each value of the name once, in file order, and nothing else. Who does
- * not know where the tables come from has to check what star_value_at checks:
- * before, that counts.values and counts.tokens are no more than the rows that
- * the tables hold; at each link that is not 0, before it is followed, that it is
- * greater than the number of its own row, so that the walk ends, and no greater
- * than counts.values, and that the row it leads to has the same first word; at
- * each value, that its token row is from 1 to counts.tokens, and that the span
- * does not start after its end or end after the file.
+ * In tables that a reading, a writing, a conversion or a check accepted, with
+ * its counts, that visits each value of the name once, in file order, and
+ * nothing else. Who does not know where the tables come from has to check what
+ * star_value_at checks: before, that counts.values and counts.tokens are no more
+ * than the rows that the tables hold; at each link that is not 0, before it is
+ * followed, that it is greater than the number of its own row, so that the walk
+ * ends, and no greater than counts.values, and that the row it leads to has the
+ * same first word; at each value, that its token row is from 1 to counts.tokens,
+ * and that the span does not start after its end or end after the file.
  *
  * star_value_at, star_value_part and star_value_number go by the same links, from
  * the first value on at each call. Asked for the n values of a column one after
@@ -111,14 +126,15 @@
  *   11   STAR_TOO_DEEP    loop_ that opens level 9                          first byte
  *   13   STAR_NOT_FOUND   not found                                         0
  *   14   STAR_OUTSIDE     a number, row or link that points outside, or a   0
- *                         link to a row not later or not of the same name
+ *                         link to a row not later or not of the same name;
+ *                         a layout that is neither 0 nor 1
  *   15   STAR_NO_INDEX    slots are no index of the file's names            0
  *
  * 12 is not used: readers that do not know global blocks give it at global_.
  *
- * Order of checking: 1; 2 over the whole file; the first token faulty by 3
- * to 6; 7 for table 1; the first token that breaks the grammar, 8 to 11;
- * 7 for tables 2 to 5, the lowest number first.
+ * Order of checking: 14 for a layout; 1; 2 over the whole file; the first token
+ * faulty by 3 to 6; 7 for table 1; the first token that breaks the grammar of the
+ * layout, 8 to 11; 7 for tables 2 to 5, the lowest number first.
  *
  * NUMBERS. A value of kind 7 is a number where its content is, in this order:
  * + or - or no sign; digits, one at least, with no point or one point before,
@@ -185,13 +201,19 @@ enum star_refusal {
     STAR_NO_INDEX = 15
 };
 
+/* The layouts, as the table above has them. */
+enum star_layout {
+    STAR_LAYOUT_TODAY = 0,
+    STAR_LAYOUT_1991 = 1
+};
+
 /* The kinds of tokens. */
 enum star_token_kind {
     STAR_TOKEN_BLOCK = 1,         /* data_ and a code */
     STAR_TOKEN_FRAME = 2,         /* save_ and a code */
     STAR_TOKEN_FRAME_END = 3,     /* save_ alone */
     STAR_TOKEN_LOOP = 4,          /* loop_ */
-    STAR_TOKEN_STOP = 5,          /* stop_ */
+    STAR_TOKEN_STOP = 5,          /* stop_; in the layout of 1991 also what closes a frame */
     STAR_TOKEN_NAME = 6,
     STAR_TOKEN_WORD = 7,
     STAR_TOKEN_REFERENCE = 8,     /* $ and a frame code */
@@ -282,7 +304,8 @@ enum star_number_form {
  * byte 10 after it, n + 1 at most together, and at most one byte more: a word
  * that begins with ; has a blank before it, and a text field whose content ends
  * in 13 has 13, 10 before its closing ;, where the file may have one byte. No
- * token is both.
+ * token is both. In the other layout it has as many bytes: save_ and stop_ are of
+ * one length.
  */
 #define STAR_PLAIN_BYTES(n) (STAR_READ_BYTES_(n) + 1 + STAR_MOST_TOKENS(n))
 
@@ -291,7 +314,7 @@ typedef struct {
     uint32_t refusal, place, tokens, sets, names, packets, values;
 } star_reading;
 
-/* The rows in each table, as a reading, a writing, a check or the building of an index answered them. */
+/* The rows in each table, as a reading, a writing, a conversion, a check or the building of an index answered them. */
 typedef struct {
     uint32_t tokens, sets, names, packets, values;
 } star_counts;
@@ -329,7 +352,7 @@ typedef struct {
     double value, uncertainty;
 } star_value_number_t;
 
-/* What writing answers: as reading, and the length of the plain form. */
+/* What writing and conversion answer: as reading, and the length of the plain form. */
 typedef struct {
     uint32_t refusal, place, length, tokens, sets, names, packets, values;
 } star_written;
@@ -347,7 +370,7 @@ static inline star_counts star_counts_of(star_reading reading)
     return counts;
 }
 
-/* The rows of a writing, as lookups take them. */
+/* The rows of a writing or a conversion, as lookups take them. */
 static inline star_counts star_counts_of_written(star_written written)
 {
     star_counts counts = {written.tokens, written.sets, written.names, written.packets,
@@ -364,15 +387,16 @@ static inline star_counts star_counts_of_checked(star_checked checked)
 }
 
 /*
- * Reads a file.
+ * Reads a file of this layout: 0 for today's, 1 for that of 1991.
  *
- * Refusals: 1 to 11. The number and place of the first check that fails, in
- * the order given above; both 0 when the file is accepted.
+ * Refusals: 14, place 0, if the layout is any other number; then 1 to 11. The
+ * number and place of the first check that fails, in the order given above; both
+ * 0 when the file is accepted.
  * Afterwards: accepted, each table holds its rows and 0 in every word after
  * them, and the counts are those of the rows. Refused, every word of every
  * table is 0 and the counts are 0. What the tables held before never matters.
  */
-star_reading star_read(const uint8_t *file, size_t file_len,
+star_reading star_read(const uint8_t *file, size_t file_len, uint32_t layout,
                        uint32_t *tokens, size_t tokens_len,
                        uint32_t *sets, size_t sets_len,
                        uint32_t *names, size_t names_len,
@@ -525,14 +549,14 @@ star_value_number_t star_value_number(const uint8_t *file, size_t file_len,
                                       star_counts counts, uint32_t name_row, uint32_t k);
 
 /*
- * Reads a file and writes its plain form: its tokens in order in their own
- * kinds and delimiters, each followed by one byte 10, without comments. A text
- * field is closed by 10 and ; or, where its content ends in 13, by 13, 10 and
- * ;, since that 13 would else belong to the line end. A word that begins with ;
- * has a blank before it. The plain form of a plain form is itself.
+ * Reads a file of today's layout and writes its plain form: its tokens in order
+ * in their own kinds and delimiters, each followed by one byte 10, without
+ * comments. A text field is closed by 10 and ; or, where its content ends in 13,
+ * by 13, 10 and ;, since that 13 would else belong to the line end. A word that
+ * begins with ; has a blank before it. The plain form of a plain form is itself.
  *
- * Refusals: those of star_read; then 1, place 0, if the plain form is over
- * 1,048,576 bytes; then 7, place 6, if the output is too short for it.
+ * Refusals: those of star_read for today's layout; then 1, place 0, if the plain
+ * form is over 1,048,576 bytes; then 7, place 6, if the output is too short for it.
  * Afterwards: accepted, the output holds the plain form and 0 in every byte
  * after it, the tables hold the reading as star_read leaves them, and the
  * length and the counts are answered. Refused, every byte of the output and
@@ -547,17 +571,43 @@ star_written star_write(const uint8_t *file, size_t file_len,
                         uint8_t *out, size_t out_len);
 
 /*
- * Reads a file and answers whether it may go to a reader that takes names and
- * codes of STAR_OLD_NAME_BYTES at most and else has the same rules: yes if every
- * name, its underscore included, and every block and frame code has 32 bytes or
- * fewer. What follows a $ does not count; it has no limit in either reader.
+ * Reads a file of this layout, 0 for today's or 1 for that of 1991, and writes
+ * its plain form in the other: its tokens as star_write writes them, but for
+ * those that close a save frame, stop_ for save_ or save_ for stop_. What is
+ * written is accepted in the other layout, and converted back from there it gives
+ * the plain form of the file itself. A file without frames is written as
+ * star_write writes it, from either layout.
+ *
+ * Refusals: 14, place 0, if the layout is any other number; then those of
+ * star_read for this layout; then 1, place 0, if the plain form is over 1,048,576
+ * bytes; then 7, place 6, if the output is too short for it.
+ * Afterwards: accepted, the output holds the plain form in the other layout and 0
+ * in every byte after it, the tables hold the reading of the file as star_read
+ * leaves them for this layout, and the length and the counts are answered.
+ * Refused, every byte of the output and every word of every table is 0, the
+ * length is 0 and the counts are 0.
+ */
+star_written star_convert(const uint8_t *file, size_t file_len, uint32_t layout,
+                          uint32_t *tokens, size_t tokens_len,
+                          uint32_t *sets, size_t sets_len,
+                          uint32_t *names, size_t names_len,
+                          uint32_t *packets, size_t packets_len,
+                          uint32_t *values, size_t values_len,
+                          uint8_t *out, size_t out_len);
+
+/*
+ * Reads a file of today's layout and answers whether it may go to a reader that
+ * takes names and codes of STAR_OLD_NAME_BYTES at most and else has the same
+ * rules: yes if every name, its underscore included, and every block and frame
+ * code has 32 bytes or fewer. What follows a $ does not count; it has no limit in
+ * either reader.
  *
  * After yes, that reader answers what star_read answers, whatever tables it is
  * lent, and leaves the same words in them. After no, it answers refusal 4 at the
  * first token whose name or code is longer. A reader that does not know global
  * blocks refuses every file that has one, whatever is answered here.
  *
- * Refusals: those of star_read; yes is then 0.
+ * Refusals: those of star_read for today's layout; yes is then 0.
  * Afterwards: accepted, yes is 1 or 0, the place is 0, the tables hold the
  * reading as star_read leaves them, and the counts are answered. Refused, every
  * word of every table is 0 and the counts are 0.
@@ -570,12 +620,12 @@ star_checked star_fits_32(const uint8_t *file, size_t file_len,
                           uint32_t *values, size_t values_len);
 
 /*
- * Reads a file and builds an index of its names in all slots that are lent: each
- * name row, in order, goes to the first slot that holds 0 from its home on, round
- * the end if needed. star_index_check accepts what is built.
+ * Reads a file of today's layout and builds an index of its names in all slots
+ * that are lent: each name row, in order, goes to the first slot that holds 0 from
+ * its home on, round the end if needed. star_index_check accepts what is built.
  *
- * Refusals: those of star_read; then 7, place 8, if there are not more slots than
- * names.
+ * Refusals: those of star_read for today's layout; then 7, place 8, if there are
+ * not more slots than names.
  * Afterwards: accepted, each name row stands in one slot and the others are 0, the
  * tables hold the reading as star_read leaves them, and the counts are answered.
  * Refused, every slot and every word of every table is 0 and the counts are 0.
@@ -590,11 +640,12 @@ star_reading star_index_build(const uint8_t *file, size_t file_len,
                               uint32_t *slots, size_t slots_len);
 
 /*
- * Reads a file and checks that the slots are an index of its names, by the four
- * conditions above. Without slots they are not, also where the file has no names.
+ * Reads a file of today's layout and checks that the slots are an index of its
+ * names, by the four conditions above. Without slots they are not, also where the
+ * file has no names.
  *
- * Refusals: those of star_read; then 15, place 0, if the slots are no index,
- * whichever of the conditions they fail.
+ * Refusals: those of star_read for today's layout; then 15, place 0, if the slots
+ * are no index, whichever of the conditions they fail.
  * Afterwards: accepted, the tables hold the reading as star_read leaves them, and
  * the counts are answered. Refused, every word of every table is 0 and the counts
  * are 0. The slots are as they were.

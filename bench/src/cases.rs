@@ -26,7 +26,7 @@ pub const CASES: [Case; 15] = [
 ];
 
 /// A head and then pieces by number, up to about so many bytes.
-fn filled(head: &str, bytes: usize, piece: impl Fn(usize) -> String) -> Vec<u8> {
+pub fn filled(head: &str, bytes: usize, piece: impl Fn(usize) -> String) -> Vec<u8> {
     let mut file = head.to_owned();
     for number in 0.. {
         let piece = piece(number);
@@ -114,7 +114,7 @@ fn header(bytes: usize) -> Vec<u8> {
 }
 
 /// Save frames of three names.
-fn frames(bytes: usize) -> Vec<u8> {
+pub fn frames(bytes: usize) -> Vec<u8> {
     let frame = |number: usize| format!("save_f{number:05} _x 1 _y 2 _z 3 save_\n");
     filled("data_frames\n", bytes, frame)
 }

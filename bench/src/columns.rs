@@ -39,7 +39,7 @@ impl Read {
     fn new() -> Self {
         let file = file();
         let mut tables = star::room(file.len()).map(|words| vec![0; words]);
-        let reading = star::read(&file, TablesMut::of(&mut tables));
+        let reading = star::read(&file, raw::STAR_LAYOUT_TODAY, TablesMut::of(&mut tables));
         assert_eq!((reading.refusal, reading.values as usize), (0, VALUES));
         Read { file, tables, counts: reading.counts() }
     }

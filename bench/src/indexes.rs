@@ -4,7 +4,7 @@
 use std::hint::black_box;
 use std::time::Duration;
 
-use tackturnel::{index, star, Counts, Tables, TablesMut};
+use tackturnel::{index, raw, star, Counts, Tables, TablesMut};
 use tackturnel_tests_support::generate::indexes::most_names;
 use tackturnel_tests_support::{reference, MOST_BYTES};
 
@@ -91,7 +91,8 @@ impl Ready {
     }
 
     fn read(&mut self) {
-        let reading = star::read(black_box(&self.file), TablesMut::of(&mut self.tables));
+        let tables = TablesMut::of(&mut self.tables);
+        let reading = star::read(black_box(&self.file), raw::STAR_LAYOUT_TODAY, tables);
         assert_eq!(reading.refusal, 0, "refused at {}", reading.place);
         black_box(&self.tables);
     }

@@ -2,7 +2,7 @@
 
 use std::hint::black_box;
 
-use tackturnel::{star, Counts, Tables, TablesMut};
+use tackturnel::{raw, star, Counts, Tables, TablesMut};
 
 use crate::cases::aniso_name;
 use crate::numbers::scattered;
@@ -70,7 +70,7 @@ impl Ready {
         };
         let file = file.into_bytes();
         let mut tables = star::room(file.len()).map(|words| vec![0; words]);
-        let reading = star::read(&file, TablesMut::of(&mut tables));
+        let reading = star::read(&file, raw::STAR_LAYOUT_TODAY, TablesMut::of(&mut tables));
         assert_eq!(reading.refusal, 0, "refused at {}", reading.place);
         Ready { names, file, tables, counts: reading.counts() }
     }

@@ -1,5 +1,5 @@
 //! Times reading and writing beside a plain copy of the same bytes, and lookups,
-//! indexes, columns and numbers.
+//! indexes, columns, layouts and numbers.
 //!
 //! `tackturnel-bench [case ...]` prints a table, each figure the best of
 //! several runs in MB/s, a megabyte being 1,000,000 bytes.
@@ -12,9 +12,11 @@
 //! and without it.
 //! `tackturnel-bench --columns [case ...]` prints the time of a value of a column:
 //! to read it, to come to it by its link, to ask for it by its number.
+//! `tackturnel-bench --layouts [case ...]` prints how fast the same save frames are read
+//! in today's layout and in that of 1991, written, and converted from either, in MB/s.
 //! `tackturnel-bench --list` prints the cases, `--list numbers` those of numbers,
 //! `--list lookups` those of lookups, `--list indexes` those of indexes, `--list
-//! columns` those of columns.
+//! columns` those of columns, `--list layouts` those of layouts.
 //! `tackturnel-bench --once case read|write|fits_32` makes everything ready and
 //! makes one call, for counting its instructions; it prints the file's bytes.
 //! `tackturnel-bench --once numbers-case number_of` makes one call for each text
@@ -26,12 +28,15 @@
 //! for how many names.
 //! `tackturnel-bench --once column-case read|walk|value_part` reads a column, walks
 //! down it or asks for each 1,000th of its values, and prints how many that are.
+//! `tackturnel-bench --once layout-case read|read_1991|write|convert|convert_1991` makes
+//! one call, on the file of 1991 where its name says so, and prints the file's bytes.
 
 #![deny(unsafe_code)]
 
 mod cases;
 mod columns;
 mod indexes;
+mod layouts;
 mod lookups;
 mod numbers;
 #[allow(unsafe_code)]
@@ -42,23 +47,30 @@ use std::time::{Duration, Instant};
 use std::{env, process};
 
 use cases::{Case, CASES};
-use tackturnel::{star, TablesMut};
-use tackturnel_tests_support::reference;
+use tackturnel::{raw, star, TablesMut};
+use tackturnel_tests_support::reference::{self, Layout};
 
-/// A file and what is lent to read and write it, no larger than it needs.
+/// A file of a layout and what is lent to read and write it, no larger than it needs.
 struct Ready {
     file: Vec<u8>,
+    layout: u32,
     tables: [Vec<u32>; 5],
     out: Vec<u8>,
 }
 
 impl Ready {
-    /// Room for the file, found without a call of the library.
+    /// A file of today's layout.
     fn new(file: Vec<u8>) -> Self {
+        Ready::of(file, raw::STAR_LAYOUT_TODAY)
+    }
+
+    /// Room for a file of a layout, found without a call of the library.
+    fn of(file: Vec<u8>, layout: u32) -> Self {
         let tokens = reference::tokens(&file).expect("the file splits into tokens");
-        let tables = reference::words_needed(&file).map(|words| vec![1; words]);
+        let needed = reference::words_needed_as(&file, Layout::of(layout).expect("a layout"));
+        let tables = needed.map(|words| vec![1; words]);
         let out = vec![1; reference::plain_form(&file, &tokens).len()];
-        Ready { file, tables, out }
+        Ready { file, layout, tables, out }
     }
 
     fn tokens(&self) -> usize {
@@ -66,7 +78,8 @@ impl Ready {
     }
 
     fn read(&mut self) {
-        let reading = star::read(black_box(&self.file), TablesMut::of(&mut self.tables));
+        let tables = TablesMut::of(&mut self.tables);
+        let reading = star::read(black_box(&self.file), self.layout, tables);
         assert_eq!(reading.refusal, 0, "refused at {}", reading.place);
         black_box(&self.tables);
     }
@@ -153,14 +166,17 @@ fn main() {
         ["--list", "lookups"] => lookups::CASES.iter().for_each(|case| println!("{}", case.name)),
         ["--list", "indexes"] => indexes::CASES.iter().for_each(|case| println!("{}", case.name)),
         ["--list", "columns"] => columns::CASES.iter().for_each(|case| println!("{}", case.0)),
+        ["--list", "layouts"] => layouts::CASES.iter().for_each(|case| println!("{}", case.0)),
         ["--numbers", ref names @ ..] => numbers::times(names),
         ["--lookups", ref names @ ..] => lookups::times(names),
         ["--indexes", ref names @ ..] => indexes::times(names),
         ["--columns", ref names @ ..] => columns::times(names),
+        ["--layouts", ref names @ ..] => layouts::times(names),
         ["--once", name, call] if name.starts_with("index-") => indexes::once(name, call),
         ["--once", name, "number_of"] => numbers::once(name),
         ["--once", name, "find_name"] => lookups::once(name),
         ["--once", name, call] if name.starts_with("column-") => columns::once(name, call),
+        ["--once", name, call] if name.starts_with("layout-") => layouts::once(name, call),
         ["--once", name, call] => once(named(name), call),
         _ => {
             let chosen: Vec<Case> = match arguments.is_empty() {

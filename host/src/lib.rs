@@ -8,7 +8,7 @@
 //!
 //! let file = b"data_a _x 1";
 //! let mut tables = star::room(file.len()).map(|words| vec![0; words]);
-//! let reading = star::read(file, TablesMut::of(&mut tables));
+//! let reading = star::read(file, raw::STAR_LAYOUT_TODAY, TablesMut::of(&mut tables));
 //! assert_eq!(reading.refusal, raw::STAR_OK);
 //!
 //! let (tables, counts) = (Tables::of(&tables), reading.counts());

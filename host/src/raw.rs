@@ -30,10 +30,18 @@ pub const STAR_TOO_DEEP: u32 = 11;
 /// Lookup: not found.
 pub const STAR_NOT_FOUND: u32 = 13;
 /// Lookup: a number, row or link that points outside, or a link to a row that is not
-/// later or not of the same name.
+/// later or not of the same name. Reading and conversion: a layout number that is neither
+/// [`STAR_LAYOUT_TODAY`] nor [`STAR_LAYOUT_1991`].
 pub const STAR_OUTSIDE: u32 = 14;
 /// Slots that are no index of the file's names.
 pub const STAR_NO_INDEX: u32 = 15;
+
+// --------------------------------------------------------------- layouts
+
+/// Layout of a file: today's, in which `save_` closes a save frame.
+pub const STAR_LAYOUT_TODAY: u32 = 0;
+/// Layout of a file: that of 1991, in which `stop_` closes a save frame.
+pub const STAR_LAYOUT_1991: u32 = 1;
 
 // ----------------------------------------------------------------- kinds
 
@@ -176,9 +184,9 @@ pub const fn star_slots_words(n: usize) -> usize {
     2 * star_most_names(n)
 }
 
-/// STAR_PLAIN_BYTES: room for the plain form of any file of `n` bytes. Each token
-/// may have one byte more than in the file: a blank before a word that begins
-/// with `;`, or the 13 of 13, 10 after a content that ends in 13.
+/// STAR_PLAIN_BYTES: room for the plain form of any file of `n` bytes, in either
+/// layout. Each token may have one byte more than in the file: a blank before a word
+/// that begins with `;`, or the 13 of 13, 10 after a content that ends in 13.
 pub const fn star_plain_bytes(n: usize) -> usize {
     read_bytes(n) + 1 + star_most_tokens(n)
 }
@@ -289,7 +297,7 @@ pub struct ValueNumber {
     pub uncertainty: f64,
 }
 
-/// What writing answers: as reading, and the length of the plain form.
+/// What writing and conversion answer: as reading, and the length of the plain form.
 #[repr(C)]
 #[derive(Clone, Copy, Debug, Default, PartialEq, Eq)]
 pub struct Written {
@@ -340,6 +348,7 @@ extern "C" {
     pub fn star_read(
         file: *const u8,
         file_len: usize,
+        layout: u32,
         tokens: *mut u32,
         tokens_len: usize,
         sets: *mut u32,
@@ -478,6 +487,25 @@ extern "C" {
     pub fn star_write(
         file: *const u8,
         file_len: usize,
+        tokens: *mut u32,
+        tokens_len: usize,
+        sets: *mut u32,
+        sets_len: usize,
+        names: *mut u32,
+        names_len: usize,
+        packets: *mut u32,
+        packets_len: usize,
+        values: *mut u32,
+        values_len: usize,
+        out: *mut u8,
+        out_len: usize,
+    ) -> Written;
+
+    /// See include/star.h.
+    pub fn star_convert(
+        file: *const u8,
+        file_len: usize,
+        layout: u32,
         tokens: *mut u32,
         tokens_len: usize,
         sets: *mut u32,

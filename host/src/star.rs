@@ -166,19 +166,21 @@ pub const fn room(bytes: usize) -> [usize; 5] {
 }
 
 /// The bytes to lend to the output for a file of so many bytes: it is then not
-/// too short, whatever the file holds.
+/// too short, whatever the file holds, for writing and for conversion.
 pub const fn plain_room(bytes: usize) -> usize {
     raw::star_plain_bytes(bytes)
 }
 
-/// Calls what reads a file, with the tables and what else it takes.
+/// Calls what reads a file, with the layout if it takes one, the tables and what else
+/// it takes.
 macro_rules! fill {
-    ($call:ident, $file:expr, $tables:expr $(, $more:expr)*) => {
+    ($call:ident, $file:expr $(; $layout:expr)?, $tables:expr $(, $more:expr)*) => {
         // SAFETY: every range is a slice, and those lent mutably are apart from all others.
         unsafe {
             $crate::raw::$call(
                 $file.as_ptr(),
                 $file.len(),
+                $($layout,)?
                 $tables.tokens.as_mut_ptr(),
                 $tables.tokens.len(),
                 $tables.sets.as_mut_ptr(),
@@ -196,14 +198,36 @@ macro_rules! fill {
 }
 pub(crate) use fill;
 
-/// Reads a file into the tables.
-pub fn read(file: &[u8], tables: TablesMut<'_>) -> Reading {
-    fill!(star_read, file, tables)
+/// Reads a file of this layout into the tables: [`raw::STAR_LAYOUT_TODAY`] or
+/// [`raw::STAR_LAYOUT_1991`]. Any other number is refused. The other calls that read a
+/// file, but for [`convert`], read today's.
+pub fn read(file: &[u8], layout: u32, tables: TablesMut<'_>) -> Reading {
+    fill!(star_read, file; layout, tables)
 }
 
 /// Reads a file into the tables and writes its plain form.
 pub fn write(file: &[u8], tables: TablesMut<'_>, out: &mut [u8]) -> Written {
     fill!(star_write, file, tables, out.as_mut_ptr(), out.len())
+}
+
+/// Reads a file of this layout into the tables and writes its plain form in the other.
+///
+/// ```
+/// use tackturnel::{raw, star, TablesMut};
+///
+/// let old = b"data_a save_f _x 1 stop_ _x 2";
+/// let mut tables = star::room(old.len()).map(|words| vec![0; words]);
+/// let mut out = vec![0; star::plain_room(old.len())];
+/// let written = star::convert(old, raw::STAR_LAYOUT_1991, TablesMut::of(&mut tables), &mut out);
+/// let today = &out[..written.length as usize];
+/// assert_eq!(today, b"data_a\nsave_f\n_x\n1\nsave_\n_x\n2\n");
+///
+/// let mut out = vec![0; today.len()];
+/// star::convert(today, raw::STAR_LAYOUT_TODAY, TablesMut::of(&mut tables), &mut out);
+/// assert_eq!(out, b"data_a\nsave_f\n_x\n1\nstop_\n_x\n2\n");
+/// ```
+pub fn convert(file: &[u8], layout: u32, tables: TablesMut<'_>, out: &mut [u8]) -> Written {
+    fill!(star_convert, file; layout, tables, out.as_mut_ptr(), out.len())
 }
 
 /// Reads a file into the tables and answers whether every name and code fits 32
@@ -253,11 +277,12 @@ pub fn find_frame(file: &[u8], tables: Tables<'_>, counts: Counts, set: u32, cod
 /// block does not have is sought in the global blocks before it, the nearest first.
 ///
 /// ```
-/// use tackturnel::{star, Tables, TablesMut};
+/// use tackturnel::{raw, star, Tables, TablesMut};
 ///
 /// let file = b"global_ _x 1 _y 2 data_a _x 3";
 /// let mut tables = star::room(file.len()).map(|words| vec![0; words]);
-/// let counts = star::read(file, TablesMut::of(&mut tables)).counts();
+/// let reading = star::read(file, raw::STAR_LAYOUT_TODAY, TablesMut::of(&mut tables));
+/// let counts = reading.counts();
 /// let tables = Tables::of(&tables);
 /// let block = star::find_block(file, tables, counts, b"a").row;
 /// let value = |name: &[u8]| {
@@ -345,11 +370,12 @@ pub struct Column<'f, 't> {
 /// one `Err` of [`raw::STAR_OUTSIDE`].
 ///
 /// ```
-/// use tackturnel::{star, Tables, TablesMut};
+/// use tackturnel::{raw, star, Tables, TablesMut};
 ///
 /// let file = b"data_a loop_ _x loop_ _y 1 2 3 stop_ 4 stop_";
 /// let mut tables = star::room(file.len()).map(|words| vec![0; words]);
-/// let counts = star::read(file, TablesMut::of(&mut tables)).counts();
+/// let reading = star::read(file, raw::STAR_LAYOUT_TODAY, TablesMut::of(&mut tables));
+/// let counts = reading.counts();
 /// let tables = Tables::of(&tables);
 /// let name = star::find_name(file, tables, counts, 1, b"_x").row;
 /// let values: Result<Vec<_>, u32> = star::column(file, tables, counts, name).collect();

@@ -28,7 +28,7 @@ fn require(group: &str, counts: &[(&str, u64)], least: u64) {
 /// A file that the library accepts, with its tables as the library leaves them.
 fn accepted(file: &[u8]) -> Handed {
     let mut tables = room(file, [0; 5]).map(|words| vec![7; words]);
-    let reading = star::read(file, TablesMut::of(&mut tables));
+    let reading = star::read(file, raw::STAR_LAYOUT_TODAY, TablesMut::of(&mut tables));
     assert_eq!(reading.refusal, raw::STAR_OK, "{}", escaped(file));
     Handed { file: file.to_vec(), tables, counts: reading.counts() }
 }
@@ -587,7 +587,7 @@ fn every_link() {
 fn largest_columns() {
     for (name, file) in generate::largest() {
         let mut tables = star::room(file.len()).map(|words| vec![7; words]);
-        let reading = star::read(&file, TablesMut::of(&mut tables));
+        let reading = star::read(&file, raw::STAR_LAYOUT_TODAY, TablesMut::of(&mut tables));
         if reading.refusal != raw::STAR_OK || reading.values == 0 {
             continue;
         }

@@ -24,7 +24,7 @@ fn require(group: &str, counts: &[(&str, u64)], least: u64) {
 /// The reading and the tables of a file, as the library leaves them.
 fn read_of(file: &[u8]) -> (Reading, [Vec<u32>; 5]) {
     let mut tables = room(file, [0; 5]).map(|words| vec![7; words]);
-    let reading = star::read(file, TablesMut::of(&mut tables));
+    let reading = star::read(file, raw::STAR_LAYOUT_TODAY, TablesMut::of(&mut tables));
     (reading, tables)
 }
 

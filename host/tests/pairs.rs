@@ -190,7 +190,7 @@ fn parts_of_one_range() {
 fn accepted(rng: &mut Rng) -> Handed {
     let file = generate::valid(rng);
     let mut tables = room(&file, [0; 5]).map(|words| vec![7; words]);
-    let reading = star::read(&file, TablesMut::of(&mut tables));
+    let reading = star::read(&file, raw::STAR_LAYOUT_TODAY, TablesMut::of(&mut tables));
     assert_eq!(reading.refusal, raw::STAR_OK, "{}", escaped(&file));
     Handed { file, tables, counts: reading.counts() }
 }
@@ -300,7 +300,7 @@ fn uniqueness_agrees() {
             let first = [head.as_bytes(), lead.as_bytes(), &one, between.as_bytes()].concat();
             let file = [&first, lead.as_bytes(), &other, tail.as_bytes()].concat();
             let mut tables = star::room(file.len()).map(|words| vec![7; words]);
-            let reading = star::read(&file, TablesMut::of(&mut tables));
+            let reading = star::read(&file, raw::STAR_LAYOUT_TODAY, TablesMut::of(&mut tables));
             let expected = match compared.equal {
                 true => (raw::STAR_TAKEN, first.len() as u32),
                 false => (raw::STAR_OK, 0),

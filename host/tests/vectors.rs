@@ -5,19 +5,37 @@ use std::process::Command;
 
 use tackturnel::{index, raw, star, Counts, NumberForm, Reading, Tables, TablesMut, Written};
 use tackturnel_tests_support::notation::{
-    built_vectors, checked_vectors, escaped, name_vectors, number_vectors, slot_vectors, vectors,
-    IndexVector, NameVector,
+    built_vectors, checked_vectors, escaped, layout_vectors, name_vectors, number_vectors,
+    slot_vectors, vectors, IndexVector, LayoutVector, NameVector, Vector,
 };
 use tackturnel_tests_support::reference;
 
+/// What reading and writing, or conversion, answer and leave in tables and an output.
+type Answers = (Reading, [Vec<u32>; 5], Written, Vec<u8>);
+
 /// The answers of reading and writing on a file, tables of 900 words and an output of
 /// 2,000 bytes, all filled with 7s before.
-fn answers(file: &[u8]) -> (Reading, [Vec<u32>; 5], Written, Vec<u8>) {
+fn answers(file: &[u8]) -> Answers {
+    answers_of(file, raw::STAR_LAYOUT_TODAY, star::write)
+}
+
+/// As `answers`, of a file of a layout and conversion from it.
+fn converted(file: &[u8], layout: u32) -> Answers {
+    answers_of(file, layout, |file, tables, out| star::convert(file, layout, tables, out))
+}
+
+/// The answers of reading a file of a layout and of writing it by this call, which leaves
+/// the same words in the tables.
+fn answers_of(
+    file: &[u8],
+    layout: u32,
+    write: impl Fn(&[u8], TablesMut<'_>, &mut [u8]) -> Written,
+) -> Answers {
     let mut tables = filled_tables();
     let mut written_tables = tables.clone();
     let mut out = vec![7; 2000];
-    let reading = star::read(file, TablesMut::of(&mut tables));
-    let written = star::write(file, TablesMut::of(&mut written_tables), &mut out);
+    let reading = star::read(file, layout, TablesMut::of(&mut tables));
+    let written = write(file, TablesMut::of(&mut written_tables), &mut out);
     assert_eq!(written.reading(), reading, "{}", escaped(file));
     assert_eq!(written_tables, tables, "{}", escaped(file));
     (reading, tables, written, out)
@@ -49,18 +67,45 @@ fn answer_vectors(name: &str, list: &str, count: usize) {
     assert_eq!(list.len(), count, "{name}");
     for vector in list {
         let shown = format!("{name}, line {}: {}", vector.line, escaped(&vector.file));
-        let (reading, tables, written, mut out) = answers(&vector.file);
-        let (refusal, place) = (vector.refusal, vector.place);
-        assert_eq!((reading.refusal, reading.place), (refusal, place), "{shown}");
-        let Counts { tokens, sets, names, packets, values } = reading.counts();
-        assert_eq!([tokens, sets, names, packets, values], vector.counts, "{shown}");
-        for (table, mut rows) in tables.into_iter().zip(vector.tables) {
-            rows.resize(900, 0);
-            assert_eq!(table, rows, "{shown}");
+        answer_vector(&vector, answers(&vector.file), &shown);
+    }
+}
+
+/// These answers are those of the vector.
+fn answer_vector(vector: &Vector, answers: Answers, shown: &str) {
+    let (reading, tables, written, mut out) = answers;
+    let (refusal, place) = (vector.refusal, vector.place);
+    assert_eq!((reading.refusal, reading.place), (refusal, place), "{shown}");
+    let Counts { tokens, sets, names, packets, values } = reading.counts();
+    assert_eq!([tokens, sets, names, packets, values], vector.counts, "{shown}");
+    for (table, rows) in tables.iter().zip(&vector.tables) {
+        let mut rows = rows.clone();
+        rows.resize(900, 0);
+        assert_eq!(table, &rows, "{shown}");
+    }
+    let rest = out.split_off(written.length as usize);
+    assert_eq!(out, vector.plain, "{shown}");
+    assert!(rest.iter().all(|&byte| byte == 0), "{shown}");
+}
+
+#[test]
+fn vectors_of_layouts_are_answered() {
+    let list = layout_vectors(include_str!("../vectors/108.txt"));
+    assert_eq!(list.len(), 68);
+    for LayoutVector { layout, of } in list {
+        let shown = format!("line {}: {layout}, {}", of.line, escaped(&of.file));
+        answer_vector(&of, converted(&of.file, layout), &shown);
+        if of.refusal != raw::STAR_OK {
+            continue;
         }
-        let rest = out.split_off(written.length as usize);
-        assert_eq!(out, vector.plain, "{shown}");
-        assert!(rest.iter().all(|&byte| byte == 0), "{shown}");
+        // back in the layout that was read it is the plain form of the file
+        let tokens = reference::tokens(&of.file).expect("an accepted file splits into tokens");
+        let (_, _, written, out) = converted(&of.plain, raw::STAR_LAYOUT_1991 - layout);
+        let back = &out[..written.length as usize];
+        let plain = reference::plain_form(&of.file, &tokens);
+        assert_eq!((written.refusal, back), (raw::STAR_OK, plain.as_slice()), "{shown}");
+        let (_, _, written, out) = converted(back, layout);
+        assert_eq!(out[..written.length as usize], of.plain, "{shown}");
     }
 }
 
@@ -293,7 +338,7 @@ fn measurement_is_read() {
     let (expected, expected_tables) = reference::read(file.as_bytes(), room);
     assert_eq!(expected.refusal, 0, "place {}", expected.place);
     let mut tables = room.map(|words| vec![7; words]);
-    let reading = star::read(file.as_bytes(), TablesMut::of(&mut tables));
+    let reading = star::read(file.as_bytes(), raw::STAR_LAYOUT_TODAY, TablesMut::of(&mut tables));
     assert_eq!(reading, expected);
     assert_eq!(tables, expected_tables);
     let checked = star::fits_32(file.as_bytes(), TablesMut::of(&mut tables));
@@ -405,13 +450,41 @@ fn measurement_from_windows_is_read() {
     assert_eq!(changed, 1);
 }
 
+/// The measurement as the layout of 1991 has it: the same rows and values, and the same
+/// plain form when it is converted.
+#[test]
+fn measurement_of_1991_is_read() {
+    let file = include_str!("../../examples/measurement.star");
+    let old = file.replace("\nsave_\n", "\nstop_\n");
+    assert_eq!(file.matches("\nsave_\n").count(), 2);
+    let (counts, mut tables, plain) = written(file.as_bytes());
+    let mut old_tables: [Vec<u32>; 5] = std::array::from_fn(|_| vec![7; 16_384]);
+    let mut out = vec![7; star::plain_room(old.len())];
+    let lent = TablesMut::of(&mut old_tables);
+    let converted = star::convert(old.as_bytes(), raw::STAR_LAYOUT_1991, lent, &mut out);
+    assert_eq!((converted.refusal, converted.counts()), (raw::STAR_OK, counts));
+    assert_eq!(escaped(&out[..converted.length as usize]), escaped(&plain));
+    for kind in tables[0].iter_mut().step_by(raw::STAR_TOKENS_WIDTH) {
+        if *kind == raw::STAR_TOKEN_FRAME_END {
+            *kind = raw::STAR_TOKEN_STOP;
+        }
+    }
+    assert_eq!(old_tables, tables);
+    // each in the other's layout is refused where its first frame ends
+    for (file, layout) in [(file, raw::STAR_LAYOUT_1991), (&old, raw::STAR_LAYOUT_TODAY)] {
+        let reading = star::read(file.as_bytes(), layout, TablesMut::of(&mut tables));
+        let place = old.find("\nstop_\n").map_or(0, |at| at as u32 + 1);
+        assert_eq!((reading.refusal, reading.place), (raw::STAR_MISPLACED, place));
+    }
+}
+
 /// The answer with the room that the file's length asks for, one table having
 /// this many words less.
 fn read_by_length(file: &str, table: usize, less: usize) -> Reading {
     let mut room = star::room(file.len());
     room[table] -= less;
     let mut tables = room.map(|words| vec![7; words]);
-    star::read(file.as_bytes(), TablesMut::of(&mut tables))
+    star::read(file.as_bytes(), raw::STAR_LAYOUT_TODAY, TablesMut::of(&mut tables))
 }
 
 /// Files that need all of the room that their length asks for.
@@ -527,6 +600,17 @@ fn constants_name_the_answers() {
         let mut tables = star::room(file.len()).map(|words| vec![7; words]);
         let checked = star::fits_32(file.as_bytes(), TablesMut::of(&mut tables));
         assert_eq!((checked.refusal, checked.yes), (raw::STAR_OK, yes), "{file}");
+    }
+
+    for (file, layout, refusal) in [
+        ("data_a save_f save_", raw::STAR_LAYOUT_TODAY, raw::STAR_OK),
+        ("data_a save_f save_", raw::STAR_LAYOUT_1991, raw::STAR_MISPLACED),
+        ("data_a save_f stop_", raw::STAR_LAYOUT_TODAY, raw::STAR_MISPLACED),
+        ("data_a save_f stop_", raw::STAR_LAYOUT_1991, raw::STAR_OK),
+        ("data_a save_f stop_", raw::STAR_LAYOUT_1991 + 1, raw::STAR_OUTSIDE),
+    ] {
+        let (reading, ..) = converted(file.as_bytes(), layout);
+        assert_eq!(reading.refusal, refusal, "{file}, {layout}");
     }
 
     let file = name(9);

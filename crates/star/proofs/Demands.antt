@@ -3,10 +3,11 @@ use mathlib.Core.Path.{refl}
 use Rattle.star_text.proofs.Comparing.{compare-equal, compare-pairs, compare-stops}
 use Rattle.star_lex.proofs.NoPair.{no-pair-as-before}
 use Rattle.star_lex.proofs.Windows.{windows-splits}
-use Rattle.star_read.proofs.Usable.{today-usable}
+use Rattle.star_lex.specs.Rules.{layoutRules}
+use Rattle.star_read.proofs.Usable.{today-usable, usable-1991}
 use Rattle.star_read.proofs.Demand1.{read-answers}
 use Rattle.star_read.proofs.Demand3.{accepted-exactly, one-reading, rows-of-reading, place-of-refusal}
-use Rattle.star_read.proofs.RefusalNumber.{refusal-number, numbers-exclude, global-number}
+use Rattle.star_read.proofs.RefusalNumber.{refusal-number, numbers-exclude, global-number, save-number}
 use Rattle.star_read.proofs.Settled.{reading-settled, one-outcome}
 use Rattle.star_read.proofs.Windows.{windows-reads}
 use Rattle.star_read.proofs.Longest.{old-files-read-as-before, old-bench-refuses, old-bench-same-or-four}
@@ -17,7 +18,8 @@ use Rattle.star_number.proofs.Exactness.{whole-exact, power-exact, rounded-once
 use Rattle.star_number.proofs.Finite.{floats-finite}
 use Rattle.star_number.proofs.Known.{numbers-known}
 use Rattle.star_number.proofs.InOrder.{numbers-in-order, numbers-answer}
-use Rattle.star_write.proofs.Demand1.{write-answers}
+use Rattle.star_write.proofs.Demand1.{write-answers, convert-answers}
+use Rattle.star_write.proofs.OverAndBack.{converted-reads, over-and-back}
 use Rattle.star_write.proofs.RoundTrip.{round-trip, writes-again}
 use Rattle.star_check.proofs.OldBench.{fits-32, fits-32-no, fits-answers}
 use Rattle.star_index.proofs.Exactly.{index-exactly}
@@ -25,17 +27,18 @@ use Rattle.star_index.proofs.IndexLookup.{index-lookup}
 use Rattle.star_index.proofs.Building.{index-built}
 use Rattle.star_index.proofs.Known.{index-known}
 use Rattle.star_index.proofs.Answering.{index-answers}
-use Rattle.star.specs.Demands.{Demand1, Demand2, Demand3, Numbers, LineEnds, Comparisons, LongerNames, Columns, Indexes}
+use Rattle.star.specs.Demands.{Demand1, Demand2, Demand3, Numbers, LineEnds, Comparisons, LongerNames, Columns, Indexes, Layouts}
 
 pub demand-1 : Demand1
-demand-1 = (read-answers, lookups-answer, values-answer, numbers-answer, write-answers, fits-answers, index-answers)
+demand-1 = (read-answers, lookups-answer, values-answer, numbers-answer, write-answers, convert-answers, fits-answers, index-answers)
 
 pub demand-2 : Demand2
-demand-2 = (today-usable, rows-of-reading, lookup-block, lookup-frame, values-in-order, span-part, round-trip, writes-again)
+demand-2 = (today-usable, usable-1991, rows-of-reading, lookup-block, lookup-frame, values-in-order, span-part, round-trip, writes-again)
 
 pub demand-3 : Demand3
 demand-3 = (
   today-usable,
+  usable-1991,
   accepted-exactly,
   one-reading,
   rows-of-reading,
@@ -43,6 +46,7 @@ demand-3 = (
   refusal-number,
   numbers-exclude,
   global-number,
+  save-number,
   lookup-by-name,
   reading-settled,
   one-outcome,
@@ -65,3 +69,7 @@ column = links-column
 
 pub indexes : Indexes
 indexes = (index-exactly, index-lookup, index-built, index-known)
+
+pub layouts : Layouts
+unfolding layoutRules
+layouts = (refl, refl, refl, refl, converted-reads, over-and-back)

@@ -11,30 +11,32 @@ use star_text::Comparison;
 use star_write::Written;
 ghost use mathlib.Core.Path.{_≡_};
 ghost use Rattle.star_text.specs.Compare.{compareOf};
-ghost use Rattle.star_read.specs.Answer.{tables, Reads};
+ghost use Rattle.star_read.specs.Answer.{tables, ReadsIn};
 ghost use Rattle.star_find.specs.Find.{lent, findBlock, findFrame, findName, valueAt, valueSpan};
 ghost use Rattle.star_index.specs.Index.{Checks, Builds};
 ghost use Rattle.star_index.specs.Lookup.{findSlot};
 ghost use Rattle.star_number.specs.Taken.{numberIn};
 ghost use Rattle.star_number.specs.Forms.{formOf, valueNumber, valueFormOf};
-ghost use Rattle.star_write.specs.Answer.{Writes};
+ghost use Rattle.star_write.specs.Answer.{Writes, Converts};
 ghost use Rattle.star_check.specs.Fits.{FitsChecked};
 
-// Reads a file into the five tables. On a refusal the counts and every word of every table are 0.
+// Reads a file into the five tables: layout 0 is today's, 1 that of 1991, and any other number is refused before all else. On a refusal the counts and
+// every word of every table are 0.
 #[no_mangle]
 pub extern "C" fn star_read(
     file: &[u8],
+    layout: u32,
     tokens: &mut [u32],
     sets: &mut [u32],
     names: &mut [u32],
     packets: &mut [u32],
     values: &mut [u32],
 ) -> Answer
-    ensures { λ r. ⌜ Reads (now (file .entry))
+    ensures { λ r. ⌜ ReadsIn layout (now (file .entry))
         (tables (now (tokens .entry)) (now (sets .entry)) (now (names .entry)) (now (packets .entry)) (now (values .entry)))
         (tables (now (tokens .exit)) (now (sets .exit)) (now (names .exit)) (now (packets .exit)) (now (values .exit))) r ⌝ }
 {
-    star_read::read(file, tokens, sets, names, packets, values)
+    star_read::read_layout(file, layout, tokens, sets, names, packets, values)
 }
 
 // The first data block with this code.
@@ -214,6 +216,27 @@ pub extern "C" fn star_write(
         (now (out .entry)) (now (out .exit)) r ⌝ }
 {
     star_write::write(file, tokens, sets, names, packets, values, out)
+}
+
+// Reads a file of a layout into the five tables and writes its plain form in the other: layout 0 is today's, 1 that of 1991, and any other number is refused before all else. On a refusal
+// length, counts, tables and output are all 0.
+#[no_mangle]
+pub extern "C" fn star_convert(
+    file: &[u8],
+    layout: u32,
+    tokens: &mut [u32],
+    sets: &mut [u32],
+    names: &mut [u32],
+    packets: &mut [u32],
+    values: &mut [u32],
+    out: &mut [u8],
+) -> Written
+    ensures { λ r. ⌜ Converts layout (now (file .entry))
+        (tables (now (tokens .entry)) (now (sets .entry)) (now (names .entry)) (now (packets .entry)) (now (values .entry)))
+        (tables (now (tokens .exit)) (now (sets .exit)) (now (names .exit)) (now (packets .exit)) (now (values .exit)))
+        (now (out .entry)) (now (out .exit)) r ⌝ }
+{
+    star_write::convert(file, layout, tokens, sets, names, packets, values, out)
 }
 
 // Reads a file into the five tables and answers whether every name and code has at most 32 bytes. After yes or no the tables hold the reading; on a refusal yes, counts and

@@ -8,11 +8,12 @@ use star_show::kept;
 use star_show::print;
 use star_show::table::FILLED;
 use star_show::words;
+use star_write::Written;
 
-// Reads a file and prints what came out.
-pub fn read(file: &[u8], kept: &mut [u32]) {
+// Reads a file of a layout and prints what came out.
+pub fn read(file: &[u8], layout: u32, kept: &mut [u32]) {
     print::bar();
-    kept::show(file, kept);
+    kept::show(file, layout, kept);
 }
 
 // Reads a file into tables of as many words as are lent, none of them 0 before, asks whether its names and codes fit, and keeps what is left.
@@ -61,6 +62,55 @@ pub fn write(file: &[u8], size: u32) {
         written.length,
         words::first(&out, size),
     );
+}
+
+// Reads a file of a layout into tables of as many words as are lent, none of them 0 before, writes its plain form in the other layout, and keeps what is left of the tables.
+fn convert(file: &[u8], layout: u32, kept: &mut [u32], out: &mut [u8]) -> Written {
+    let mut tokens = [FILLED; 1024];
+    let mut sets = [FILLED; 1024];
+    let mut names = [FILLED; 1024];
+    let mut packets = [FILLED; 1024];
+    let mut values = [FILLED; 1024];
+    let written = star_write::convert(
+        file,
+        layout,
+        kept::lend(&mut tokens, kept, 1),
+        kept::lend(&mut sets, kept, 2),
+        kept::lend(&mut names, kept, 3),
+        kept::lend(&mut packets, kept, 4),
+        kept::lend(&mut values, kept, 5),
+        out,
+    );
+    kept::keep_tables(kept, &tokens, &sets, &names, &packets, &values);
+    kept::keep_counts(
+        kept,
+        written.tokens,
+        written.sets,
+        written.names,
+        written.packets,
+        written.values,
+    );
+    written
+}
+
+// Converts a file of the layout that is given into so many bytes and prints what came out.
+pub fn turn(given: &[u8], file: &[u8], kept: &mut [u32]) {
+    let size = words::number(words::rest(given));
+    let mut out = words::room();
+    let written = convert(
+        file,
+        words::number(given),
+        kept,
+        words::lend(&mut out, size),
+    );
+    print::bar();
+    print::form(
+        written.refusal,
+        written.place,
+        written.length,
+        words::first(&out, size),
+    );
+    kept::print_kept(written.refusal, kept);
 }
 
 // The five counts, as lookup takes them.

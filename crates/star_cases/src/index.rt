@@ -128,5 +128,5 @@ pub fn ask(given: &[u8], file: &[u8], kept: &[u32]) {
 // Prints the hash of these bytes.
 pub fn hash(bytes: &[u8]) {
     print::bar();
-    float::show_hex(star_index::fnv(star_index::BASIS, bytes) as u64);
+    float::show_hex(star_hash::fnv(star_hash::BASIS, bytes) as u64);
 }

@@ -15,6 +15,8 @@
 //     index W W ..            reads the last file into the tables that are lent and checks that these slots are an index of it
 //     ask SET BYTES           looks for the name of a set with these bytes through the slots that are lent, and without them
 //     hash BYTES              the hash of these bytes
+//     old LAYOUT              reads the last file in a layout into the tables that are lent
+//     turn LAYOUT N           reads the last file in a layout and writes its plain form in the other into N bytes
 // Any other line is a remark.
 mod calls;
 mod index;
@@ -37,7 +39,7 @@ fn write(file: &[u8], kept: &[u32], refusal: u32) {
 // Reads a file, and writes the plain form of an accepted one.
 fn read_and_write(file: &[u8]) {
     let mut kept = kept::room();
-    let refusal = kept::show(file, &mut kept);
+    let refusal = kept::show(file, 0, &mut kept);
     write(file, &kept, refusal);
 }
 
@@ -89,7 +91,9 @@ fn run_on(line: &[u8], given: &[u8], file: &[u8], kept: &mut [u32]) {
     match words::byte(line, 0) {
         b'c' => run_file(file),
         b'1' => run_long(words::number(line)),
-        b'r' => calls::read(file, kept),
+        b'r' => calls::read(file, 0, kept),
+        b'o' => calls::read(file, words::number(given), kept),
+        b't' => calls::turn(given, file, kept),
         b'f' => calls::fits(file, kept),
         b'w' => calls::write(file, words::number(given)),
         b's' => kept::set(given, kept),

@@ -10,26 +10,26 @@ use native.Mathlib.Omega.{arith}
 use borrow.Author.Tests.{le-leb}
 use lib.ListN.{length, getD, length-map, List·getD-map}
 use Rattle.star_text.specs.Outcome.{accepted}
-use Rattle.star_lex.specs.Rules.{today}
+use Rattle.star_lex.specs.Rules.{layoutRules}
 use Rattle.star_rows.specs.Rows.{holding, wordOf}
 use Rattle.star_rows.proofs.Held.{holding-room, held-word}
 use Rattle.star_rows.proofs.Words.{word-row}
 use Rattle.star_text.specs.Names.{key}
 use Rattle.star_lex.specs.Tokens.{Placed, tokenRow}
-use Rattle.star_lex.specs.Split.{tokensOf, placed}
+use Rattle.star_lex.specs.Split.{placed}
 use Rattle.star_lex.proofs.Splitting.{row-wide}
 use Rattle.star_grammar.specs.Tables.{Rows, rowsOf, setWords, nameWords, packetWords, valueWords}
-use Rattle.star_grammar.specs.Tree.{File}
-use Rattle.star_grammar.specs.Reading.{Reading}
+use Rattle.star_grammar.specs.Tree.{File, frameClose}
+use Rattle.star_grammar.specs.Reading.{ReadingBy}
 use Rattle.star_grammar.proofs.Widths.{set-wide, name-wide, packet-wide, value-wide}
 use Rattle.star_grammar.proofs.Linked.{Linked, tree-linked}
 use Rattle.star_grammar.proofs.RowsOf.{contentIn, nameIn, setIn, fileNames, fileSets, IsToken, Inside, TreeRows, tree-rows}
 use Rattle.star_lex.specs.Holds.{tokenAt}
 use Rattle.star_lex.proofs.Held.{nowhere, Row, held-row, held-some}
-use Rattle.star_read.specs.Read.{Sizes, tokensOnly, readOf}
-use Rattle.star_read.proofs.Usable.{today-usable}
+use Rattle.star_read.specs.Read.{Sizes, tokensOnly, readIn}
 use Rattle.star_read.proofs.Demand3.{rows-of-reading, one-reading}
-use Rattle.star_read.proofs.Accepted.{accepted-holds}
+use Rattle.star_read.proofs.InLayout.{layout-usable, in-accepted}
+use Rattle.star_read.proofs.Accepted.{split-in, holds-in}
 use Rattle.star_read.specs.Answer.{readAnswer, tablesOf}
 use Rattle.star_find.specs.Find.{Lent, fits, isRow, contentAt, countsFit, spanAt}
 use Rattle.star_find.specs.Demands.{lentAfter, countsAfter, contentOf, tokenKind, spanOf}
@@ -56,12 +56,12 @@ counted ps rows = record {
 }
 
 -- they are what reading leaves and answers
-module _ (file : List ℕ) (words : Sizes) (ps : List Placed) (rows : Rows) (e : readOf file words ≡ accepted (ps, rows)) where
-  pub lent-left : lentAfter file words ≡ left file words ps rows
+module _ (layout : ℕ) (file : List ℕ) (words : Sizes) (ps : List Placed) (rows : Rows) (e : readIn layout file words ≡ accepted (ps, rows)) where
+  pub lent-left : lentAfter layout file words ≡ left file words ps rows
   unfolding tablesOf left
   lent-left = rw e
 
-  pub counts-counted : countsAfter file words ≡ counted ps rows
+  pub counts-counted : countsAfter layout file words ≡ counted ps rows
   unfolding readAnswer counted
   counts-counted = rw e
 
@@ -101,46 +101,42 @@ content-in ps row =
     ap (λ cs. getD cs (row - 1) []) (map-map (λ t. key (t .content)) (λ p. p .token) ps ∙ sym (map-map key (λ p. p .token .content) ps))
     ∙ List·getD-map key (map (λ p. p .token .content) ps) (row - 1) []
 
-module _ (file : List ℕ) (words : Sizes) (ps : List Placed) (rows : Rows) (e : readOf file words ≡ accepted (ps, rows)) where
-  tokens-split : tokensOf file ≡ accepted ps
-  tokens-split = rows-of-reading today today-usable file words ps rows e .0
+module _ (layout : ℕ) (file : List ℕ) (words : Sizes) (ps : List Placed) (rows : Rows) (e : readIn layout file words ≡ accepted (ps, rows)) (row : ℕ) (is : IsToken (length ps) row) where
+  token-row : Row file (holding tokenRow ps (words .tokens)) (row - 1)
+  token-row = held-row file (holding tokenRow ps (words .tokens)) (length ps) (holds-in layout file words ps rows e) (row - 1) (omega (arith, is .0, is .1))
 
-  module _ (row : ℕ) (is : IsToken (length ps) row) where
-    token-row : Row file (holding tokenRow ps (words .tokens)) (row - 1)
-    token-row = held-row file (holding tokenRow ps (words .tokens)) (length ps) (accepted-holds file words ps rows e) (row - 1) (omega (arith, is .0, is .1))
+  token-at : tokenAt file (row - 1) ≡ getD (tokensOnly ps) (row - 1) (record { kind = 0; content = [] })
+  unfolding placed
+  token-at = rw (split-in layout file words ps rows e)
 
-    token-at : tokenAt file (row - 1) ≡ getD (tokensOnly ps) (row - 1) (record { kind = 0; content = [] })
-    unfolding placed
-    token-at = rw tokens-split
+  -- a token row has its token's content
+  pub token-content : contentAt file (holding tokenRow ps (words .tokens)) (length ps) row ≡ some (contentOf ps row)
+  unfolding contentAt isRow
+  token-content =
+      rw (
+        le-leb 1 row (is .0),
+        le-leb row (length ps) (is .1),
+        held-some file (holding tokenRow ps (words .tokens)) (length ps) (holds-in layout file words ps rows e) (row - 1) (omega (arith, is .0, is .1)),
+        token-at,
+        content-at,
+      )
 
-    -- a token row has its token's content
-    pub token-content : contentAt file (holding tokenRow ps (words .tokens)) (length ps) row ≡ some (contentOf ps row)
-    unfolding contentAt isRow
-    token-content =
-        rw (
-          le-leb 1 row (is .0),
-          le-leb row (length ps) (is .1),
-          held-some file (holding tokenRow ps (words .tokens)) (length ps) (accepted-holds file words ps rows e) (row - 1) (omega (arith, is .0, is .1)),
-          token-at,
-          content-at,
-        )
+  pub token-kind : wordOf (holding tokenRow ps (words .tokens)) 3 row 0 ≡ tokenKind ps row
+  token-kind = rw (word-row (holding tokenRow ps (words .tokens)) 3 row 0 (is .0), add-zero, token-row .kind, token-at, kind-at)
 
-    pub token-kind : wordOf (holding tokenRow ps (words .tokens)) 3 row 0 ≡ tokenKind ps row
-    token-kind = rw (word-row (holding tokenRow ps (words .tokens)) 3 row 0 (is .0), add-zero, token-row .kind, token-at, kind-at)
-
-    -- and its span
-    pub token-span : spanAt (holding tokenRow ps (words .tokens)) row ≡ spanOf ps row
-    unfolding spanAt spanOf tokenRow tokenKind contentOf
-    token-span =
-        rw (
-          word-row (holding tokenRow ps (words .tokens)) 3 row 1 (is .0),
-          word-row (holding tokenRow ps (words .tokens)) 3 row 2 (is .0),
-          held-word 3 tokenRow row-wide nowhere ps (words .tokens) (row - 1) 1 (omega (arith, is .0, is .1)) (omega arith),
-          held-word 3 tokenRow row-wide nowhere ps (words .tokens) (row - 1) 2 (omega (arith, is .0, is .1)) (omega arith),
-          List·getD-map (λ p. p .at) ps (row - 1) nowhere,
-          List·getD-map (λ p. p .token .kind) ps (row - 1) nowhere,
-          List·getD-map (λ p. p .token .content) ps (row - 1) nowhere,
-        )
+  -- and its span
+  pub token-span : spanAt (holding tokenRow ps (words .tokens)) row ≡ spanOf ps row
+  unfolding spanAt spanOf tokenRow tokenKind contentOf
+  token-span =
+      rw (
+        word-row (holding tokenRow ps (words .tokens)) 3 row 1 (is .0),
+        word-row (holding tokenRow ps (words .tokens)) 3 row 2 (is .0),
+        held-word 3 tokenRow row-wide nowhere ps (words .tokens) (row - 1) 1 (omega (arith, is .0, is .1)) (omega arith),
+        held-word 3 tokenRow row-wide nowhere ps (words .tokens) (row - 1) 2 (omega (arith, is .0, is .1)) (omega arith),
+        List·getD-map (λ p. p .at) ps (row - 1) nowhere,
+        List·getD-map (λ p. p .token .kind) ps (row - 1) nowhere,
+        List·getD-map (λ p. p .token .content) ps (row - 1) nowhere,
+      )
 
 -- the rows after acceptance, against the reading's tree
 pub record RowsAfter (ps : List Placed) (rows : Rows) (f : File) : Type 0 where
@@ -149,12 +145,18 @@ pub record RowsAfter (ps : List Placed) (rows : Rows) (f : File) : Type 0 where
   pub inside : Inside (length ps) (rows .sets) (rows .names) (rows .values)
   pub linked : Linked 1 (rows .values)
 
-pub rows-after : (file : List ℕ) (words : Sizes) (ps : List Placed) (rows : Rows) → readOf file words ≡ accepted (ps, rows)
-    → (r : Reading (tokensOnly ps)) → RowsAfter ps rows (r .tree)
-rows-after file words ps rows e r =
-    let k : (tokensOf file ≡ accepted ps) × (s : Reading (tokensOnly ps)) × (rows ≡ rowsOf (s .tree)) = rows-of-reading today today-usable file words ps rows e in
-    let q : rows ≡ rowsOf (r .tree) = k .2 ∙ ap rowsOf (one-reading today (tokensOnly ps) (k .1) r) in
-    let t : TreeRows (r .tree) = tree-rows (r .tree) in
+-- what is accepted has a reading
+pub reading-in : (layout : ℕ) (file : List ℕ) (words : Sizes) (ps : List Placed) (rows : Rows) → readIn layout file words ≡ accepted (ps, rows)
+    → (r : ReadingBy (layoutRules layout) (tokensOnly ps)) × (rows ≡ rowsOf (r .tree))
+reading-in layout file words ps rows e =
+    let k = rows-of-reading (layoutRules layout) (layout-usable layout) file words ps rows (in-accepted layout file words (ps, rows) e .1) in (k .1, k .2)
+
+pub rows-after : (layout : ℕ) (file : List ℕ) (words : Sizes) (ps : List Placed) (rows : Rows) → readIn layout file words ≡ accepted (ps, rows)
+    → (r : ReadingBy (layoutRules layout) (tokensOnly ps)) → RowsAfter ps rows (r .tree)
+rows-after layout file words ps rows e r =
+    let k : (s : ReadingBy (layoutRules layout) (tokensOnly ps)) × (rows ≡ rowsOf (s .tree)) = reading-in layout file words ps rows e in
+    let q : rows ≡ rowsOf (r .tree) = k .1 ∙ ap rowsOf (one-reading (layoutRules layout) (tokensOnly ps) (k .0) r) in
+    let t : TreeRows (frameClose (layoutRules layout)) (r .tree) = tree-rows (frameClose (layoutRules layout)) (r .tree) in
     rw q (record {
       names = rw (r .yield) at (t .names);
       sets = rw (r .yield) at (t .sets);

@@ -10,7 +10,6 @@ use lib.Dec.{eqb, leb}
 use lib.ListN.{length, getD, length-map, List·getD-map}
 use borrow.Author.Tests.{eqb-true, eqb-false, leb-true, leb-false}
 use Rattle.star_text.specs.Outcome.{accepted}
-use Rattle.star_lex.specs.Rules.{today}
 use Rattle.star_rows.specs.Rows.{wordOf, holding}
 use Rattle.star_rows.proofs.Words.{word-held}
 use Rattle.star_lex.proofs.Cases.{impossible}
@@ -22,9 +21,7 @@ use Rattle.star_grammar.specs.Reading.{blockCode}
 use Rattle.star_grammar.proofs.Widths.{name-wide, set-wide}
 use Rattle.star_grammar.proofs.RowsOf.{contentIn, nameIn, setIn, fileSets, IsToken}
 use Rattle.star_lex.proofs.Each.{each-at}
-use Rattle.star_read.specs.Read.{Sizes, tokensOnly, readOf}
-use Rattle.star_read.proofs.Usable.{today-usable}
-use Rattle.star_read.proofs.Demand3.{rows-of-reading}
+use Rattle.star_read.specs.Read.{Sizes, tokensOnly, readIn}
 use Rattle.star_read.specs.Answer.{readAnswer, tablesOf}
 use Rattle.star_find.specs.Find.{rowThere, ownName, askGlobals, askOn, findName, findBlock, findFrame, isRow, look, refused}
 use Rattle.star_find.specs.Demands.{contentOf, HoldsName, FirstName, blockKinds, IsKind, EarlierHolds, Reaches, NameOf, LookupByName, SetWith, LookupBlock, HoldsFrame, LookupFrame, ValuesInOrder, Column}
@@ -34,7 +31,7 @@ use Rattle.star_find.proofs.Looking.{row-bounds}
 use Rattle.star_find.proofs.Answers.{Answers, place-made, answers}
 use Rattle.star_find.proofs.Asking.{or-first, or-second, NoneAfter, Asked, asked as globals-asked}
 use Rattle.star_find.proofs.Numbered.{holds-name, sets-count, set-kinds, holds-frame, sets-count-codes, block-code, code-block}
-use Rattle.star_find.proofs.After.{left, counted, lent-left, counts-counted, counts-fit, row-inside, content-in, token-content, RowsAfter, rows-after}
+use Rattle.star_find.proofs.After.{left, counted, lent-left, counts-counted, counts-fit, row-inside, content-in, token-content, RowsAfter, reading-in, rows-after}
 use Rattle.star_find.proofs.Values.{chain-left, value-found, value-none}
 
 -- no row, which stands where there is none
@@ -116,7 +113,7 @@ module _ (file : List ℕ) (words : Sizes) (ps : List Placed) (rows : Rows) wher
   find-frame set code = rw (counts-fit file words ps rows)
 
 -- the rows that each search answers, and what they are in the tree
-module _ (file : List ℕ) (words : Sizes) (ps : List Placed) (rows : Rows) (e : readOf file words ≡ accepted (ps, rows)) (f : File) (k : RowsAfter ps rows f) where
+module _ (layout : ℕ) (file : List ℕ) (words : Sizes) (ps : List Placed) (rows : Rows) (e : readIn layout file words ≡ accepted (ps, rows)) (f : File) (k : RowsAfter ps rows f) where
   names-sought : (set : ℕ) (name : List ℕ)
       → Sought (λ i. HasName ps set name (getD (rows .names) i noName)) (length (rows .names)) (looked-names file words ps rows name set)
   unfolding looked-names left counted nameWords
@@ -124,7 +121,7 @@ module _ (file : List ℕ) (words : Sizes) (ps : List Placed) (rows : Rows) (e :
       sought-alike (λ i h. let a : (asked set false 0 (nameWords (getD (rows .names) i noName)) ≡ true) ↔ (getD (rows .names) i noName .set ≡ set)
       = asked-first set 0 (nameWords (getD (rows .names) i noName)) in (λ p. (a .0 (p .0), p .1), λ q. (a .1 (q .0), q .1)))
       (look-sought 4 nameWords name-wide noName (rows .names) (words .names) (left file words ps rows) (counted ps rows) set false 0 name (contentOf ps) (omega arith)
-      (λ i h. token-content file words ps rows e (getD (rows .names) i noName .name)
+      (λ i h. token-content layout file words ps rows e (getD (rows .names) i noName .name)
       (each-at (λ x. IsToken (length ps) (x .name)) (rows .names) i noName h (k .inside .name-tokens))))
 
   sets-sought : (kind : ℕ) (byParent : Bool) (parent : ℕ) (code : List ℕ)
@@ -133,7 +130,7 @@ module _ (file : List ℕ) (words : Sizes) (ps : List Placed) (rows : Rows) (e :
   unfolding looked-sets left counted setWords
   sets-sought kind byParent parent code =
       look-sought 3 setWords set-wide noSet (rows .sets) (words .sets) (left file words ps rows) (counted ps rows) kind byParent parent code (contentOf ps) (omega arith)
-      (λ i h. token-content file words ps rows e (getD (rows .sets) i noSet .heading)
+      (λ i h. token-content layout file words ps rows e (getD (rows .sets) i noSet .heading)
       (each-at (λ x. IsToken (length ps) (x .heading)) (rows .sets) i noSet h (k .inside .headings)))
 
   frames-sought : (set : ℕ) (code : List ℕ)
@@ -291,33 +288,33 @@ module _ (file : List ℕ) (words : Sizes) (ps : List Placed) (rows : Rows) (e :
 
 -- demand 3, fifth sentence
 pub lookup-by-name : LookupByName
-lookup-by-name file words ps rows e r set name =
-    let k : RowsAfter ps rows (r .tree) = rows-after file words ps rows e r in
-    rw (lent-left file words ps rows e, counts-counted file words ps rows e)
-    (name-answers file words ps rows e (r .tree) k set name (named file words ps rows e (r .tree) k set name))
+lookup-by-name layout file words ps rows e r set name =
+    let k : RowsAfter ps rows (r .tree) = rows-after layout file words ps rows e r in
+    rw (lent-left layout file words ps rows e, counts-counted layout file words ps rows e)
+    (name-answers layout file words ps rows e (r .tree) k set name (named layout file words ps rows e (r .tree) k set name))
 
 pub lookup-block : LookupBlock
-lookup-block file words ps rows e r code =
+lookup-block layout file words ps rows e r code =
     let a : Answers (List·Memᴰ (key code) (flatMap blockCode (r .tree))) (λ i. HasCode ps 1 0 code (getD (rows .sets) i noSet)) (length (rows .sets))
     (findBlock (left file words ps rows) (counted ps rows) code)
-    = block-answers file words ps rows e (r .tree) (rows-after file words ps rows e r) code in
-    rw (lent-left file words ps rows e, counts-counted file words ps rows e) (a .0, λ h. set-with ps rows 1 0 code _ (a .1 h))
+    = block-answers layout file words ps rows e (r .tree) (rows-after layout file words ps rows e r) code in
+    rw (lent-left layout file words ps rows e, counts-counted layout file words ps rows e) (a .0, λ h. set-with ps rows 1 0 code _ (a .1 h))
 
 pub lookup-frame : LookupFrame
-lookup-frame file words ps rows e r set code =
+lookup-frame layout file words ps rows e r set code =
     let a : Answers (HoldsFrame (r .tree) set code) (λ i. HasCode ps 2 set code (getD (rows .sets) i noSet)) (length (rows .sets))
     (findFrame (left file words ps rows) (counted ps rows) set code)
-    = frame-answers file words ps rows e (r .tree) (rows-after file words ps rows e r) set code in
-    rw (lent-left file words ps rows e, counts-counted file words ps rows e) (a .0, λ h. set-with ps rows 2 set code _ (a .1 h))
+    = frame-answers layout file words ps rows e (r .tree) (rows-after layout file words ps rows e r) set code in
+    rw (lent-left layout file words ps rows e, counts-counted layout file words ps rows e) (a .0, λ h. set-with ps rows 2 set code _ (a .1 h))
 
 pub values-in-order : ValuesInOrder
-values-in-order file words ps rows e name low high =
-    let k : RowsAfter ps rows _ = rows-after file words ps rows e (rows-of-reading today today-usable file words ps rows e .1) in
-    rw (lent-left file words ps rows e, counts-counted file words ps rows e)
-    (value-found file words ps rows e (k .linked) (k .inside) name low high, value-none file words ps rows e (k .linked) (k .inside) name low high)
+values-in-order layout file words ps rows e name low high =
+    let k : RowsAfter ps rows _ = rows-after layout file words ps rows e (reading-in layout file words ps rows e .0) in
+    rw (lent-left layout file words ps rows e, counts-counted layout file words ps rows e)
+    (value-found layout file words ps rows e (k .linked) (k .inside) name low high, value-none layout file words ps rows e (k .linked) (k .inside) name low high)
 
 pub column : Column
 unfolding tablesOf readAnswer left counted
-column file words ps rows e name =
-    let k : RowsAfter ps rows _ = rows-after file words ps rows e (rows-of-reading today today-usable file words ps rows e .1) in
+column layout file words ps rows e name =
+    let k : RowsAfter ps rows _ = rows-after layout file words ps rows e (reading-in layout file words ps rows e .0) in
     rw e (chain-left file words ps rows (k .linked) name)

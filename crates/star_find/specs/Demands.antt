@@ -1,4 +1,4 @@
--- What is demanded of lookup in the tables and counts as the reader left them: statements alone, over the reading. Believed; star's Demands cites it.
+-- What is demanded of lookup in the tables and counts as the reader left them, in either layout: statements alone, over the reading. Believed; star's Demands cites it.
 use mathlib.Core.Path.{_≡_}
 use mathlib.Core.Bool.{cond}
 use mathlib.Core.Logic.{_⊎_, _↔_}
@@ -10,11 +10,12 @@ use Rattle.star_text.specs.Outcome.{accepted}
 use Rattle.star_text.specs.Names.{key}
 use Rattle.star_rows.specs.Widths.{valueWidth}
 use Rattle.star_rows.specs.Rows.{wordOf}
+use Rattle.star_lex.specs.Rules.{layoutRules}
 use Rattle.star_lex.specs.Tokens.{Placed, opening}
 use Rattle.star_grammar.specs.Tree.{Member, own, framed, Block, File}
 use Rattle.star_grammar.specs.Tables.{Rows, ValueRow, blockKind}
-use Rattle.star_grammar.specs.Reading.{Reading, entryNames, ownNames, frameCodes, blockCode}
-use Rattle.star_read.specs.Read.{Sizes, tokensOnly, readOf}
+use Rattle.star_grammar.specs.Reading.{ReadingBy, entryNames, ownNames, frameCodes, blockCode}
+use Rattle.star_read.specs.Read.{Sizes, tokensOnly, readIn}
 use Rattle.star_read.specs.Answer.{readAnswer, Tables, tablesOf}
 use Rattle.star_read.specs.declared.Answer.{Answer}
 use Rattle.star_find.specs.Find.{Lent, lent, findName, findBlock, findFrame, firstValue, valueAt, valuePart, valueSpan}
@@ -23,15 +24,15 @@ use Rattle.star_find.specs.declared.Found.{Found}
 use Rattle.star_find.specs.declared.Value.{Value}
 use Rattle.star_find.specs.declared.Span.{Span}
 
--- the file with the tables that reading leaves, and the counts that it answers
-abbrev pub lentAfter : List ℕ → Sizes → Lent
-lentAfter file words =
-    let t : Tables = tablesOf (readOf file words) words in
+-- the file with the tables that reading in a layout leaves, and the counts that it answers
+abbrev pub lentAfter : (layout : ℕ) → List ℕ → Sizes → Lent
+lentAfter layout file words =
+    let t : Tables = tablesOf (readIn layout file words) words in
     lent file (t .tokens) (t .sets) (t .names) (t .packets) (t .values)
 
-abbrev pub countsAfter : List ℕ → Sizes → Counts
-countsAfter file words =
-    let r : Answer = readAnswer (readOf file words) in
+abbrev pub countsAfter : (layout : ℕ) → List ℕ → Sizes → Counts
+countsAfter layout file words =
+    let r : Answer = readAnswer (readIn layout file words) in
     record { tokens = r .tokens; sets = r .sets; names = r .names; packets = r .packets; values = r .values }
 
 -- the own names of each set of a tree, sets in the order of their first tokens: a block, then its frames
@@ -92,14 +93,15 @@ pub data NameOf (f : File) (set : ℕ) (name : List ℕ) : (of : ℕ) → Type 0
   nearest : (HoldsName f set name → ⊥) → IsKind f 1 set → (global : ℕ) → EarlierHolds f set name global
       → ((other : ℕ) → EarlierHolds f set name other → other ≤ global) → NameOf f set name global
 
--- demand 3, fifth sentence: after acceptance, for any set number and any name, lookup by name succeeds exactly when there is a set of that
--- number and it or, for a data block, an earlier global block holds the name, and answers the first row with an equal name of the set whose name it is
+-- demand 3, fifth sentence: after acceptance in either layout, for any set number and any name, lookup by name succeeds exactly when there is a set of
+-- that number and it or, for a data block, an earlier global block holds the name, and answers the first row with an equal name of the set whose
+-- name it is
 abbrev pub LookupByName : Type 0
-LookupByName = (file : List ℕ) (words : Sizes) (ps : List Placed) (rows : Rows) → readOf file words ≡ accepted (ps, rows)
-    → (r : Reading (tokensOnly ps)) (set : ℕ) (name : List ℕ)
-    → ((findName (lentAfter file words) (countsAfter file words) set name .refusal ≡ 0) ↔ Reaches (r .tree) set name)
-    × (findName (lentAfter file words) (countsAfter file words) set name .refusal ≡ 0
-    → (of : ℕ) × NameOf (r .tree) set name of × FirstName ps rows of name (findName (lentAfter file words) (countsAfter file words) set name .row))
+LookupByName = (layout : ℕ) (file : List ℕ) (words : Sizes) (ps : List Placed) (rows : Rows) → readIn layout file words ≡ accepted (ps, rows)
+    → (r : ReadingBy (layoutRules layout) (tokensOnly ps)) (set : ℕ) (name : List ℕ)
+    → ((findName (lentAfter layout file words) (countsAfter layout file words) set name .refusal ≡ 0) ↔ Reaches (r .tree) set name)
+    × (findName (lentAfter layout file words) (countsAfter layout file words) set name .refusal ≡ 0
+    → (of : ℕ) × NameOf (r .tree) set name of × FirstName ps rows of name (findName (lentAfter layout file words) (countsAfter layout file words) set name .row))
 
 -- a set row of that kind and parent whose code is equal to this one
 pub record SetWith (ps : List Placed) (rows : Rows) (kind parent : ℕ) (code : List ℕ) (row : ℕ) : Type 0 where
@@ -111,11 +113,11 @@ pub record SetWith (ps : List Placed) (rows : Rows) (kind parent : ℕ) (code : 
 
 -- block lookup succeeds exactly when a data block of that code is in the reading
 abbrev pub LookupBlock : Type 0
-LookupBlock = (file : List ℕ) (words : Sizes) (ps : List Placed) (rows : Rows) → readOf file words ≡ accepted (ps, rows)
-    → (r : Reading (tokensOnly ps)) (code : List ℕ)
-    → ((findBlock (lentAfter file words) (countsAfter file words) code .refusal ≡ 0) ↔ List·Memᴰ (key code) (flatMap blockCode (r .tree)))
-    × (findBlock (lentAfter file words) (countsAfter file words) code .refusal ≡ 0
-    → SetWith ps rows 1 0 code (findBlock (lentAfter file words) (countsAfter file words) code .row))
+LookupBlock = (layout : ℕ) (file : List ℕ) (words : Sizes) (ps : List Placed) (rows : Rows) → readIn layout file words ≡ accepted (ps, rows)
+    → (r : ReadingBy (layoutRules layout) (tokensOnly ps)) (code : List ℕ)
+    → ((findBlock (lentAfter layout file words) (countsAfter layout file words) code .refusal ≡ 0) ↔ List·Memᴰ (key code) (flatMap blockCode (r .tree)))
+    × (findBlock (lentAfter layout file words) (countsAfter layout file words) code .refusal ≡ 0
+    → SetWith ps rows 1 0 code (findBlock (lentAfter layout file words) (countsAfter layout file words) code .row))
 
 -- the frame codes of each set, sets in the order of their first tokens; a frame has none
 unfoldable pub noCodes : Member → List (List (List ℕ))
@@ -132,11 +134,11 @@ pub record HoldsFrame (f : File) (set : ℕ) (code : List ℕ) : Type 0 where
   pub holds : List·Memᴰ (key code) (getD (flatMap blockCodes f) (set - 1) [])
 
 abbrev pub LookupFrame : Type 0
-LookupFrame = (file : List ℕ) (words : Sizes) (ps : List Placed) (rows : Rows) → readOf file words ≡ accepted (ps, rows)
-    → (r : Reading (tokensOnly ps)) (set : ℕ) (code : List ℕ)
-    → ((findFrame (lentAfter file words) (countsAfter file words) set code .refusal ≡ 0) ↔ HoldsFrame (r .tree) set code)
-    × (findFrame (lentAfter file words) (countsAfter file words) set code .refusal ≡ 0
-    → SetWith ps rows 2 set code (findFrame (lentAfter file words) (countsAfter file words) set code .row))
+LookupFrame = (layout : ℕ) (file : List ℕ) (words : Sizes) (ps : List Placed) (rows : Rows) → readIn layout file words ≡ accepted (ps, rows)
+    → (r : ReadingBy (layoutRules layout) (tokensOnly ps)) (set : ℕ) (code : List ℕ)
+    → ((findFrame (lentAfter layout file words) (countsAfter layout file words) set code .refusal ≡ 0) ↔ HoldsFrame (r .tree) set code)
+    × (findFrame (lentAfter layout file words) (countsAfter layout file words) set code .refusal ≡ 0
+    → SetWith ps rows 2 set code (findFrame (lentAfter layout file words) (countsAfter layout file words) set code .row))
 
 -- the value rows of a name row, in file order
 unfoldable pub ofName : ℕ → List ValueRow → List ValueRow
@@ -156,8 +158,8 @@ pub data Chain (values : List ℕ) : (row : ℕ) → List ℕ → Type 0 where
 -- in the tables that reading leaves, the links from the first value row of a name row on lead through each of its value rows once, in file order, and
 -- through nothing else
 abbrev pub Column : Type 0
-Column = (file : List ℕ) (words : Sizes) (ps : List Placed) (rows : Rows) → readOf file words ≡ accepted (ps, rows) → (name : ℕ)
-    → Chain (lentAfter file words .values) (firstValue (lentAfter file words .values) name (countsAfter file words .values) 1) (numbersOf name 1 (rows .values))
+Column = (layout : ℕ) (file : List ℕ) (words : Sizes) (ps : List Placed) (rows : Rows) → readIn layout file words ≡ accepted (ps, rows) → (name : ℕ)
+    → Chain (lentAfter layout file words .values) (firstValue (lentAfter layout file words .values) name (countsAfter layout file words .values) 1) (numbersOf name 1 (rows .values))
 
 unfoldable pub tokenKind : List Placed → (row : ℕ) → ℕ
 tokenKind ps row = getD (map (λ p. p .token .kind) ps) (row - 1) 0
@@ -171,16 +173,16 @@ spanOf ps row =
 -- the values of a name row, k = 1, 2, .., are those of the reading in file order, each with its packet and the content of its token, where that
 -- lies; past the last there is none
 abbrev pub ValuesInOrder : Type 0
-ValuesInOrder = (file : List ℕ) (words : Sizes) (ps : List Placed) (rows : Rows) → readOf file words ≡ accepted (ps, rows)
+ValuesInOrder = (layout : ℕ) (file : List ℕ) (words : Sizes) (ps : List Placed) (rows : Rows) → readIn layout file words ≡ accepted (ps, rows)
     → (name : ℕ) → 1 ≤ name → name ≤ length (rows .names)
     → ((before : List ValueRow) (v : ValueRow) (behind : List ValueRow) → ofName name (rows .values) ≡ before ++ (v ∷ behind)
-    → (valueAt (lentAfter file words) (countsAfter file words) name (suc (length before)) ≡ record { refusal = 0; kind = tokenKind ps (v .value); packet = v .packet })
-    × (valuePart (lentAfter file words) (countsAfter file words) name (suc (length before)) ≡ contentOf ps (v .value))
-    × (valueSpan (lentAfter file words) (countsAfter file words) name (suc (length before)) ≡ spanOf ps (v .value)))
+    → (valueAt (lentAfter layout file words) (countsAfter layout file words) name (suc (length before)) ≡ record { refusal = 0; kind = tokenKind ps (v .value); packet = v .packet })
+    × (valuePart (lentAfter layout file words) (countsAfter layout file words) name (suc (length before)) ≡ contentOf ps (v .value))
+    × (valueSpan (lentAfter layout file words) (countsAfter layout file words) name (suc (length before)) ≡ spanOf ps (v .value)))
     × ((k : ℕ) → (k ≡ 0) ⊎ (length (ofName name (rows .values)) < k)
-    → (valueAt (lentAfter file words) (countsAfter file words) name k ≡ record { refusal = 13; kind = 0; packet = 0 })
-    × (valuePart (lentAfter file words) (countsAfter file words) name k ≡ [])
-    × (valueSpan (lentAfter file words) (countsAfter file words) name k ≡ record { start = 0; end = 0 }))
+    → (valueAt (lentAfter layout file words) (countsAfter layout file words) name k ≡ record { refusal = 13; kind = 0; packet = 0 })
+    × (valuePart (lentAfter layout file words) (countsAfter layout file words) name k ≡ [])
+    × (valueSpan (lentAfter layout file words) (countsAfter layout file words) name k ≡ record { start = 0; end = 0 }))
 
 -- what lies between the offsets of a value is its part, of any file, tables, counts and numbers
 abbrev pub SpanPart : Type 0

@@ -28,7 +28,7 @@ module _ (rules : Rules) where
   accepts-members s ts r m = (
     linked (fold putBlock (m .blocks) (fold (putMember s) (m .members) r)),
     rw (m .yield)
-        (members-run rules s (m .members) (fileYield (m .blocks)) r (m .members-whole) (file-no-value rules (m .blocks) (m .blocks-whole))
+        (members-run rules s (m .members) (fileYield frameEnd (m .blocks)) r (m .members-whole) (file-no-value rules (m .blocks) (m .blocks-whole))
         ∙ blocks-run rules s (m .blocks) (fold (putMember s) (m .members) r) (m .blocks-whole)),
   )
 
@@ -45,7 +45,7 @@ module _ (rules : Rules) where
 
   set-no-value : (w : Where) (ts : List Token) → InSet rules w ts → NoValue ts
   set-no-value (inBlock s) ts m =
-      rw (m .yield) (members-no-value rules (m .members) (fileYield (m .blocks)) (m .members-whole) (file-no-value rules (m .blocks) (m .blocks-whole)))
+      rw (m .yield) (members-no-value rules (m .members) (fileYield frameEnd (m .blocks)) (m .members-whole) (file-no-value rules (m .blocks) (m .blocks-whole)))
   set-no-value (inFrame b s) ts m =
       rw (m .yield) (entries-no-value rules (m .entries) (frameEnd ∷ m .after) (m .whole) (not-value _ _ sort-frame-end frameEnd≢value))
 

@@ -189,7 +189,7 @@ module _ (rules : Rules) where
 
 -- what a walk from the start has read begins a whole file
 pub rest-alive : (rules : Rules) → 1 ≤ rules .levels → (p : List Token) → Each Fixed p → (st : State) (r : Rows) → walk rules start p noRows ≡ go st r
-    → (x : Token) → IsName x → (f : File) × (fileYield f ≡ p ++ completion st x) × FileBy rules f
+    → (x : Token) → IsName x → (f : File) × (fileYield frameEnd f ≡ p ++ completion st x) × FileBy rules f
 rest-alive rules least p f st r e x n =
     let b : Blocks rules (p ++ completion st x) =
     walk-back rules least start st p (completion st x) noRows r f tt e
@@ -198,7 +198,7 @@ rest-alive rules least p f st r e x n =
 
 -- a token that a step refuses after a walk from the start continues no whole file
 pub dead : (rules : Rules) (p : List Token) (st : State) (r : Rows) → walk rules start p noRows ≡ go st r → (t : Token) (n : ℕ)
-    → stepAt rules st (t .kind) r ≡ refuse n → (f : File) → FileBy rules f → (ts : List Token) → fileYield f ≡ p ++ (t ∷ ts) → ⊥
+    → stepAt rules st (t .kind) r ≡ refuse n → (f : File) → FileBy rules f → (ts : List Token) → fileYield frameEnd f ≡ p ++ (t ∷ ts) → ⊥
 dead rules p st r e t n q f w ts y =
     bad-good n (r .tokens) (rowsOf f)
     (ap (onward rules ts r) (sym q) ∙ sym (run-onward rules st t ts r) ∙ sym (walk-run rules start st p (t ∷ ts) noRows r e)

@@ -367,7 +367,7 @@ entries-run rules w (e ∷ es) rest r h nv =
     ∙ entries-run rules w es rest (putEntry (setOf w) e r) (h .1) nv)
 
 frame-run : (rules : Rules) (b : ℕ) (f : Frame) (rest : List Token) (r : Rows) → FrameBy rules f
-    → run rules (within (inBlock b)) (frameYield f ++ rest) r ≡ run rules (within (inBlock b)) rest (putFrame b f r)
+    → run rules (within (inBlock b)) (frameYield frameEnd f ++ rest) r ≡ run rules (within (inBlock b)) rest (putFrame b f r)
 unfolding frameYield putFrame step between setOf
 frame-run rules b f rest r h =
     let s : ℕ = next (r .sets) in
@@ -377,33 +377,33 @@ frame-run rules b f rest r h =
     ∙ run-sort rules (within (inFrame b s)) frameEnd rest (fold (putEntry s) (f .entries) (putSet 2 b r)) Sort.frameEnd sort-frame-end)
 
 member-run : (rules : Rules) (b : ℕ) (m : Member) (rest : List Token) (r : Rows) → MemberBy rules m → NoValue rest
-    → run rules (within (inBlock b)) (memberYield m ++ rest) r ≡ run rules (within (inBlock b)) rest (putMember b m r)
+    → run rules (within (inBlock b)) (memberYield frameEnd m ++ rest) r ≡ run rules (within (inBlock b)) rest (putMember b m r)
 unfolding memberYield putMember setOf
 member-run rules b (own e) rest r h nv = entry-run rules (inBlock b) e rest r h nv
 member-run rules b (framed f) rest r h nv = frame-run rules b f rest r h
 
-member-no-value : (rules : Rules) (m : Member) (rest : List Token) → MemberBy rules m → NoValue (memberYield m ++ rest)
+member-no-value : (rules : Rules) (m : Member) (rest : List Token) → MemberBy rules m → NoValue (memberYield frameEnd m ++ rest)
 unfolding memberYield frameYield
 member-no-value rules (own e) rest h = entry-no-value rules e rest h
 member-no-value rules (framed f) rest h = not-value _ _ (sort-frame (f .heading) (h .heading)) frame≢value
 
 pub members-no-value : (rules : Rules) (ms : List Member) (rest : List Token) → Each (MemberBy rules) ms → NoValue rest
-    → NoValue (flatMap memberYield ms ++ rest)
+    → NoValue (flatMap (memberYield frameEnd) ms ++ rest)
 unfolding flatMap
 members-no-value rules [] rest h nv = nv
 members-no-value rules (m ∷ ms) rest h nv =
-    rw (append-assoc (memberYield m) (flatMap memberYield ms) rest) (member-no-value rules m (flatMap memberYield ms ++ rest) (h .0))
+    rw (append-assoc (memberYield frameEnd m) (flatMap (memberYield frameEnd) ms) rest) (member-no-value rules m (flatMap (memberYield frameEnd) ms ++ rest) (h .0))
 
 pub members-run : (rules : Rules) (b : ℕ) (ms : List Member) (rest : List Token) (r : Rows) → Each (MemberBy rules) ms → NoValue rest
-    → run rules (within (inBlock b)) (flatMap memberYield ms ++ rest) r ≡ run rules (within (inBlock b)) rest (fold (putMember b) ms r)
+    → run rules (within (inBlock b)) (flatMap (memberYield frameEnd) ms ++ rest) r ≡ run rules (within (inBlock b)) rest (fold (putMember b) ms r)
 unfolding flatMap
 members-run rules b [] rest r h nv = refl
 members-run rules b (m ∷ ms) rest r h nv =
-    rw (append-assoc (memberYield m) (flatMap memberYield ms) rest)
-    (member-run rules b m (flatMap memberYield ms ++ rest) r (h .0) (members-no-value rules ms rest (h .1) nv)
+    rw (append-assoc (memberYield frameEnd m) (flatMap (memberYield frameEnd) ms) rest)
+    (member-run rules b m (flatMap (memberYield frameEnd) ms ++ rest) r (h .0) (members-no-value rules ms rest (h .1) nv)
     ∙ members-run rules b ms rest (putMember b m r) (h .1) nv)
 
-pub file-no-value : (rules : Rules) (f : File) → FileBy rules f → NoValue (fileYield f)
+pub file-no-value : (rules : Rules) (f : File) → FileBy rules f → NoValue (fileYield frameEnd f)
 unfolding flatMap blockYield
 file-no-value rules [] h = tt
 file-no-value rules (b ∷ f) h = at (h .0 .heading)
@@ -426,24 +426,24 @@ start-step rules s t r (IsHeading.global-block e) = rw (sort-global t e)
 
 -- the blocks of a file, after one
 pub blocks-run : (rules : Rules) (s : ℕ) (f : File) (r : Rows) → FileBy rules f
-    → run rules (within (inBlock s)) (fileYield f) r ≡ good (linked (fold putBlock f r))
+    → run rules (within (inBlock s)) (fileYield frameEnd f) r ≡ good (linked (fold putBlock f r))
 unfolding flatMap blockYield putBlock run endRun endBetween
 blocks-run rules s [] r h = refl
 blocks-run rules s (b ∷ f) r h =
-    run-onward rules (within (inBlock s)) (b .heading) (flatMap memberYield (b .members) ++ fileYield f) r
-    ∙ ap (onward rules (flatMap memberYield (b .members) ++ fileYield f) r) (heading-step rules s b r (h .0 .heading))
-    ∙ members-run rules (next (r .sets)) (b .members) (fileYield f) (putSet (blockKind b) 0 r) (h .0 .members) (file-no-value rules f (h .1))
+    run-onward rules (within (inBlock s)) (b .heading) (flatMap (memberYield frameEnd) (b .members) ++ fileYield frameEnd f) r
+    ∙ ap (onward rules (flatMap (memberYield frameEnd) (b .members) ++ fileYield frameEnd f) r) (heading-step rules s b r (h .0 .heading))
+    ∙ members-run rules (next (r .sets)) (b .members) (fileYield frameEnd f) (putSet (blockKind b) 0 r) (h .0 .members) (file-no-value rules f (h .1))
     ∙ blocks-run rules (next (r .sets)) f (putBlock b r) (h .1)
 
 -- the blocks of a file, from its start
-pub file-run : (rules : Rules) (f : File) (r : Rows) → FileBy rules f → run rules start (fileYield f) r ≡ good (linked (fold putBlock f r))
+pub file-run : (rules : Rules) (f : File) (r : Rows) → FileBy rules f → run rules start (fileYield frameEnd f) r ≡ good (linked (fold putBlock f r))
 unfolding flatMap blockYield run endRun
 file-run rules [] r h = refl
 file-run rules (b ∷ f) r h =
-    run-alike rules start (within (inBlock 0)) (b .heading) (flatMap memberYield (b .members) ++ fileYield f) r (start-step rules 0 (b .heading) r (h .0 .heading))
+    run-alike rules start (within (inBlock 0)) (b .heading) (flatMap (memberYield frameEnd) (b .members) ++ fileYield frameEnd f) r (start-step rules 0 (b .heading) r (h .0 .heading))
     ∙ blocks-run rules 0 (b ∷ f) r h
 
 -- a run over the tokens of a whole tree makes the tree's rows
-pub complete : (rules : Rules) (f : File) → FileBy rules f → run rules start (fileYield f) noRows ≡ good (rowsOf f)
+pub complete : (rules : Rules) (f : File) → FileBy rules f → run rules start (fileYield frameEnd f) noRows ≡ good (rowsOf f)
 unfolding rowsOf
 complete rules f h = file-run rules f noRows h

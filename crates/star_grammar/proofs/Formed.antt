@@ -1,8 +1,10 @@
 -- Well-formed tokens are as files have them, and what completes a file is well formed: its kinds and words are known.
 use mathlib.Core.Path.{_≡_, refl}
+use mathlib.Core.Bool.{Bool, true, false, cond}
 use mathlib.Core.List.{List, [], _∷_}
 use Prim.Native.Nat.{ℕ, zero, suc, _≤_}
 use native.Mathlib.Omega.{arith}
+use lib.Dec.{eqb}
 use Rattle.star_text.specs.Bytes.{isPrintable, all}
 use Rattle.star_lex.specs.Rules.{Rules}
 use Rattle.star_lex.specs.Tokens.{Token, Each, dataWord, saveWord, loopWord, stopWord, globalWord}
@@ -13,6 +15,7 @@ use Rattle.star_lex.proofs.Each.{each-append, each-implies}
 use Rattle.star_grammar.specs.Tree.{frameEnd, stop}
 use Rattle.star_grammar.specs.Machine.{State, start, within, named, header, body}
 use Rattle.star_grammar.proofs.Rest.{Fixed, zeroWord, naming, ending, completion}
+use Rattle.star_grammar.specs.Layout.{oldToken, oldRow, layoutRow}
 use Rattle.star_grammar.proofs.Alive.{each-ending}
 
 -- a kind that fixes no content
@@ -81,3 +84,25 @@ pub formed-completion : (rules : Rules) (st : State) (x : Token) → FormedBy ru
 formed-completion rules st x h =
     each-append (FormedBy rules) (naming st x) (ending st) .1
     (formed-naming rules st x h, each-ending (FormedBy rules) (formed-zero rules) (formed-stop rules) (formed-end rules) st)
+
+-- what is well formed is so in the layout of the rules
+formed-old : (rules : Rules) (t : Token) → FormedBy rules t → FormedBy rules (oldToken t)
+unfolding oldToken
+formed-old rules t h = by (eqb (t .kind) 3)
+  where
+    by : (b : Bool) → FormedBy rules (cond b stop t)
+    by true = formed-stop rules
+    by false = h
+
+each-old : (rules : Rules) (ts : List Token) → Each (FormedBy rules) ts → Each (FormedBy rules) (oldRow ts)
+unfolding oldRow
+each-old rules [] h = tt
+each-old rules (t ∷ ts) h = (formed-old rules t (h .0), each-old rules ts (h .1))
+
+pub formed-by : (rules : Rules) (ts : List Token) → Each (FormedBy rules) ts → Each (FormedBy rules) (layoutRow rules ts)
+unfolding layoutRow
+formed-by rules ts h = by (rules .stopCloses)
+  where
+    by : (b : Bool) → Each (FormedBy rules) (cond b (oldRow ts) ts)
+    by true = each-old rules ts h
+    by false = h

@@ -19,3 +19,7 @@ pub mod Refusals
 pub mod Marks
 pub mod RowsOf
 pub mod Widths
+pub mod Tracking
+pub mod Layouts
+pub mod Yields
+pub mod Images

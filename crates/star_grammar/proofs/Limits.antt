@@ -33,7 +33,7 @@ module _ (rules : Rules) (more : ℕ) (least : rules .levels ≤ more) where
   header-limit w first before n s Sort.name r st u e = e
   header-limit w first before n s Sort.value r st u e = e
 
-  step-limit : (st s : State) (k : Sort) (r u : Rows) → step rules st k r ≡ go s u → step (atLevels rules more) st k r ≡ go s u
+  pub step-limit : (st s : State) (k : Sort) (r u : Rows) → step rules st k r ≡ go s u → step (atLevels rules more) st k r ≡ go s u
   unfolding step
   step-limit start s k r u e = e
   step-limit (within w) s k r u e = e

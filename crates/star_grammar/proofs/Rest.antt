@@ -22,7 +22,7 @@ pub record Fixed (t : Token) : Type 0 where
 pub record Members (rules : Rules) (ts : List Token) : Type 0 where
   pub members : List Member
   pub blocks : File
-  pub yield : ts ≡ flatMap memberYield members ++ fileYield blocks
+  pub yield : ts ≡ flatMap (memberYield frameEnd) members ++ fileYield frameEnd blocks
   pub members-whole : Each (MemberBy rules) members
   pub blocks-whole : FileBy rules blocks
 
@@ -104,7 +104,7 @@ InBody rules w outer l inner (suc f) = Filling (l .names) (suc f) inner (Levels 
 -- a whole file
 pub record Blocks (rules : Rules) (ts : List Token) : Type 0 where
   pub blocks : File
-  pub yield : ts ≡ fileYield blocks
+  pub yield : ts ≡ fileYield frameEnd blocks
   pub whole : FileBy rules blocks
 
 abbrev pub Rest : (rules : Rules) → State → List Token → Type 0

@@ -10,7 +10,7 @@ use lib.ListN.{length, getD, drop, replicate, length-append, length-map, List·g
 use lib.Seq.{drop-drop, drop-append-seam, getD-drop}
 use Rattle.star_text.specs.Names.{key}
 use Rattle.star_lex.specs.Tokens.{Token, Each}
-use Rattle.star_grammar.specs.Tree.{Inner, Packet, innerYield, packetYield, Loop, loopYield, Entry, item, looped, entryYield, Frame, frameYield, Member, own, framed, memberYield, Block, blockYield, File, fileYield, frameEnd, loopStart, stop}
+use Rattle.star_grammar.specs.Tree.{Inner, Packet, innerYield, packetYield, Loop, loopYield, Entry, item, looped, entryYield, Frame, frameYield, Member, own, framed, memberYield, Block, blockYield, File, fileYield, loopStart, stop}
 use Rattle.star_grammar.specs.Tables.{SetRow, NameRow, ValueRow, Rows, noRows, pass, openLoop, putSet, putName, putPacket, putValue, fold, next, putValues, putInner, putPacketTree, putNames, putDeeper, putStops, putLoop, putEntry, putFrame, putMember, blockKind, putBlock, linkTo, linkedFrom, linked, rowsOf}
 use Rattle.star_grammar.specs.Reading.{contents, entryNames, frameCodes}
 
@@ -304,59 +304,59 @@ module _ {ts : List Token} where
       → Piece ts (flatMap entryYield es) (of set (flatMap entryNames es)) [] r (fold (putEntry set) es r)
   puts-entries set = fold-of set (putEntry set) entryYield entryNames (puts-entry set)
 
-  puts-frame : (block : ℕ) (f : Frame) (r : Rows)
-      → Piece ts (frameYield f) (of (next (r .sets)) (flatMap entryNames (f .entries))) ((2, block, key (f .heading .content)) ∷ []) r (putFrame block f r)
+  puts-frame : (close : Token) (block : ℕ) (f : Frame) (r : Rows)
+      → Piece ts (frameYield close f) (of (next (r .sets)) (flatMap entryNames (f .entries))) ((2, block, key (f .heading .content)) ∷ []) r (putFrame block f r)
   unfolding putFrame frameYield
-  puts-frame block f r =
-      then (puts-set 2 block (f .heading) r) (then-none (puts-entries (next (r .sets)) (f .entries) (putSet 2 block r)) (puts-pass frameEnd _))
+  puts-frame close block f r =
+      then (puts-set 2 block (f .heading) r) (then-none (puts-entries (next (r .sets)) (f .entries) (putSet 2 block r)) (puts-pass close _))
 
-  puts-member : (block : ℕ) (m : Member) (r : Rows)
-      → Piece ts (memberYield m) (memberNames block (length (r .sets)) m) (framesOf block (frameCodes m)) r (putMember block m r)
+  puts-member : (close : Token) (block : ℕ) (m : Member) (r : Rows)
+      → Piece ts (memberYield close m) (memberNames block (length (r .sets)) m) (framesOf block (frameCodes m)) r (putMember block m r)
   unfolding putMember memberYield frameCodes
-  puts-member block (own e) r = puts-entry block e r
-  puts-member block (framed f) r = puts-frame block f r
+  puts-member close block (own e) r = puts-entry block e r
+  puts-member close block (framed f) r = puts-frame close block f r
 
-  puts-members : (block : ℕ) (ms : List Member) (sets : ℕ) (r : Rows) → length (r .sets) ≡ sets
-      → Piece ts (flatMap memberYield ms) (membersNames block sets ms) (framesOf block (flatMap frameCodes ms)) r (fold (putMember block) ms r)
+  puts-members : (close : Token) (block : ℕ) (ms : List Member) (sets : ℕ) (r : Rows) → length (r .sets) ≡ sets
+      → Piece ts (flatMap (memberYield close) ms) (membersNames block sets ms) (framesOf block (flatMap frameCodes ms)) r (fold (putMember block) ms r)
   unfolding flatMap
-  puts-members block [] sets r h = puts-none r
-  puts-members block (m ∷ ms) sets r h =
+  puts-members close block [] sets r h = puts-none r
+  puts-members close block (m ∷ ms) sets r h =
       let code : List ℕ → ℕ × ℕ × List ℕ = λ c. (2, block, c) in
       rw (← h, map-append code (frameCodes m) (flatMap frameCodes ms))
-      (then-counted (puts-member block m r)
-      (λ c. puts-members block ms (length (r .sets) + length (frameCodes m)) (putMember block m r) (omega (arith, c, length-map (frameCodes m) code))))
+      (then-counted (puts-member close block m r)
+      (λ c. puts-members close block ms (length (r .sets) + length (frameCodes m)) (putMember block m r) (omega (arith, c, length-map (frameCodes m) code))))
 
-  puts-block : (b : Block) (r : Rows)
-      → Piece ts (blockYield b) (membersNames (next (r .sets)) (next (r .sets)) (b .members))
+  puts-block : (close : Token) (b : Block) (r : Rows)
+      → Piece ts (blockYield close b) (membersNames (next (r .sets)) (next (r .sets)) (b .members))
       ((blockKind b, 0, key (b .heading .content)) ∷ framesOf (next (r .sets)) (flatMap frameCodes (b .members))) r (putBlock b r)
   unfolding putBlock blockYield
-  puts-block b r =
+  puts-block close b r =
       then-counted (puts-set (blockKind b) 0 (b .heading) r)
-      (λ c. puts-members (next (r .sets)) (b .members) (next (r .sets)) (putSet (blockKind b) 0 r) (c ∙ add-one (length (r .sets))))
+      (λ c. puts-members close (next (r .sets)) (b .members) (next (r .sets)) (putSet (blockKind b) 0 r) (c ∙ add-one (length (r .sets))))
 
-  puts-blocks : (f : File) (sets : ℕ) (r : Rows) → length (r .sets) ≡ sets
-      → Piece ts (fileYield f) (fileNames sets f) (fileSets sets f) r (fold putBlock f r)
+  puts-blocks : (close : Token) (f : File) (sets : ℕ) (r : Rows) → length (r .sets) ≡ sets
+      → Piece ts (fileYield close f) (fileNames sets f) (fileSets sets f) r (fold putBlock f r)
   unfolding flatMap
-  puts-blocks [] sets r h = puts-none r
-  puts-blocks (b ∷ f) sets r h =
+  puts-blocks close [] sets r h = puts-none r
+  puts-blocks close (b ∷ f) sets r h =
       let codes : List (List ℕ) = flatMap frameCodes (b .members) in
       let code : List ℕ → ℕ × ℕ × List ℕ = λ c. (2, next (r .sets), c) in
       rw (← h)
-      (then-counted (puts-block b r)
-      (λ c. puts-blocks f (next (r .sets) + length codes) (putBlock b r) (omega (arith, c, length-map codes code))))
+      (then-counted (puts-block close b r)
+      (λ c. puts-blocks close f (next (r .sets) + length codes) (putBlock b r) (omega (arith, c, length-map codes code))))
 
 -- what the rows of a tree are
-pub record TreeRows (f : File) : Type 0 where
-  pub names : map (nameIn (fileYield f)) (rowsOf f .names) ≡ fileNames 0 f
-  pub sets : map (setIn (fileYield f)) (rowsOf f .sets) ≡ fileSets 0 f
-  pub inside : Inside (length (fileYield f)) (rowsOf f .sets) (rowsOf f .names) (rowsOf f .values)
+pub record TreeRows (close : Token) (f : File) : Type 0 where
+  pub names : map (nameIn (fileYield close f)) (rowsOf f .names) ≡ fileNames 0 f
+  pub sets : map (setIn (fileYield close f)) (rowsOf f .sets) ≡ fileSets 0 f
+  pub inside : Inside (length (fileYield close f)) (rowsOf f .sets) (rowsOf f .names) (rowsOf f .values)
 
-pub tree-rows : (f : File) → TreeRows f
+pub tree-rows : (close : Token) (f : File) → TreeRows close f
 unfolding rowsOf linked noRows
-tree-rows f =
-    let p : Puts (fileYield f) (fileYield f) (fileNames 0 f) (fileSets 0 f) noRows (fold putBlock f noRows)
-    = puts-blocks f 0 noRows refl [] (sym (append-nil (fileYield f))) in
-    let k : Inside (length (fileYield f)) (fold putBlock f noRows .sets) (fold putBlock f noRows .names) (fold putBlock f noRows .values)
+tree-rows close f =
+    let p : Puts (fileYield close f) (fileYield close f) (fileNames 0 f) (fileSets 0 f) noRows (fold putBlock f noRows)
+    = puts-blocks close f 0 noRows refl [] (sym (append-nil (fileYield close f))) in
+    let k : Inside (length (fileYield close f)) (fold putBlock f noRows .sets) (fold putBlock f noRows .names) (fold putBlock f noRows .values)
     = rw (p .tokens, zero-add) at (p .inside (record { headings = tt; name-tokens = tt; value-tokens = tt })) in
     record {
       names = p .names-are;
@@ -364,6 +364,6 @@ tree-rows f =
       inside = record {
         headings = k .headings;
         name-tokens = k .name-tokens;
-        value-tokens = each-linked (length (fileYield f)) 1 (fold putBlock f noRows .values) (k .value-tokens);
+        value-tokens = each-linked (length (fileYield close f)) 1 (fold putBlock f noRows .values) (k .value-tokens);
       };
     }

@@ -109,7 +109,7 @@ module _ (rules : Rules) where
   set-entry (inBlock s) e after we m = record {
     members = own e ∷ m .members;
     blocks = m .blocks;
-    yield = ap (λ (ts : List Token). entryYield e ++ ts) (m .yield) ∙ sym (append-assoc (entryYield e) (flatMap memberYield (m .members)) (fileYield (m .blocks)));
+    yield = ap (λ (ts : List Token). entryYield e ++ ts) (m .yield) ∙ sym (append-assoc (entryYield e) (flatMap (memberYield frameEnd) (m .members)) (fileYield frameEnd (m .blocks)));
     members-whole = (we, m .members-whole);
     blocks-whole = m .blocks-whole;
   }
@@ -475,15 +475,15 @@ run-back rules least (t ∷ ts) st r r′ f h e = at (λ s r″. run-back rules 
 
 -- what a run accepts is the yield of a whole tree
 pub sound : (rules : Rules) → 1 ≤ rules .levels → (ts : List Token) → Each Fixed ts → (r : Rows) → run rules start ts noRows ≡ good r
-    → (f : File) × (fileYield f ≡ ts) × FileBy rules f
+    → (f : File) × (fileYield frameEnd f ≡ ts) × FileBy rules f
 sound rules least ts f r e =
     let b : Blocks rules ts = run-back rules least ts start noRows r f tt e in
     (b .blocks, sym (b .yield), b .whole)
 
 -- and its rows are the tree's
 pub rows-of-run : (rules : Rules) → 1 ≤ rules .levels → (ts : List Token) → Each Fixed ts → (r : Rows) → run rules start ts noRows ≡ good r
-    → (f : File) × (fileYield f ≡ ts) × FileBy rules f × (r ≡ rowsOf f)
+    → (f : File) × (fileYield frameEnd f ≡ ts) × FileBy rules f × (r ≡ rowsOf f)
 rows-of-run rules least ts h r e =
-    let s : (f : File) × (fileYield f ≡ ts) × FileBy rules f = sound rules least ts h r e in
+    let s : (f : File) × (fileYield frameEnd f ≡ ts) × FileBy rules f = sound rules least ts h r e in
     let q : run rules start ts noRows ≡ good (rowsOf (s .0)) = rw (s .1) at (complete rules (s .0) (s .2)) in
     (s .0, s .1, s .2, cc)

@@ -315,7 +315,7 @@ end-no-entry : Kinds 4 6 frameEnd → ⊥
 unfolding frameEnd
 end-no-entry k = omega (arith, k .least)
 
-frame-same : (rules : Rules) (f g : Frame) (s t : List Token) → FrameBy rules f → FrameBy rules g → frameYield f ++ s ≡ frameYield g ++ t
+frame-same : (rules : Rules) (f g : Frame) (s t : List Token) → FrameBy rules f → FrameBy rules g → frameYield frameEnd f ++ s ≡ frameYield frameEnd g ++ t
     → (f ≡ g) × (s ≡ t)
 unfolding frameYield
 frame-same rules f g s t wf wg e =
@@ -328,7 +328,7 @@ frame-same rules f g s t wf wg e =
     let tails : frameEnd ∷ s ≡ frameEnd ∷ t = all .1 in
     (λ i. record { heading = heading i; entries = all .0 i }, cc)
 
-member-begins : (rules : Rules) (m : Member) → MemberBy rules m → Begins (Kinds 2 6) (memberYield m)
+member-begins : (rules : Rules) (m : Member) → MemberBy rules m → Begins (Kinds 2 6) (memberYield frameEnd m)
 unfolding memberYield frameYield
 member-begins rules (own e) w = wider (entryYield e) (entry-begins rules e w)
   where
@@ -337,20 +337,20 @@ member-begins rules (own e) w = wider (entryYield e) (entry-begins rules e w)
     wider (x ∷ xs) b = record { least = omega (arith, b .least); most = b .most }
 member-begins rules (framed f) w = record { least = omega (arith, w .heading); most = omega (arith, w .heading) }
 
-member-follows : (rules : Rules) (m : Member) (s : List Token) → MemberBy rules m → NotHead IsValue (memberYield m ++ s)
+member-follows : (rules : Rules) (m : Member) (s : List Token) → MemberBy rules m → NotHead IsValue (memberYield frameEnd m ++ s)
 member-follows rules m s w =
-    begins-not (Kinds 2 6) IsValue (memberYield m ++ s) (λ t. no-value 2 6 t (omega arith))
-    (begins-append (Kinds 2 6) (memberYield m) s (member-begins rules m w))
+    begins-not (Kinds 2 6) IsValue (memberYield frameEnd m ++ s) (λ t. no-value 2 6 t (omega arith))
+    (begins-append (Kinds 2 6) (memberYield frameEnd m) s (member-begins rules m w))
 
 -- an entry is no frame
 entry-no-frame : (rules : Rules) (e : Entry) (f : Frame) (s t : List Token) → EntryBy rules e → FrameBy rules f
-    → entryYield e ++ s ≡ frameYield f ++ t → ⊥
+    → entryYield e ++ s ≡ frameYield frameEnd f ++ t → ⊥
 unfolding frameYield
 entry-no-frame rules e f s t we wf q =
-    never (Kinds 4 6) (entryYield e) s (frameYield f ++ t) (entry-begins rules e we) q (λ k. omega (arith, k .least, wf .heading))
+    never (Kinds 4 6) (entryYield e) s (frameYield frameEnd f ++ t) (entry-begins rules e we) q (λ k. omega (arith, k .least, wf .heading))
 
 member-same : (rules : Rules) (a b : Member) (s t : List Token) → MemberBy rules a → MemberBy rules b → NotHead IsValue s → NotHead IsValue t
-    → memberYield a ++ s ≡ memberYield b ++ t → (a ≡ b) × (s ≡ t)
+    → memberYield frameEnd a ++ s ≡ memberYield frameEnd b ++ t → (a ≡ b) × (s ≡ t)
 unfolding memberYield
 member-same rules (own a) (own b) s t wa wb hs ht e =
     let all : (a ≡ b) × (s ≡ t) = entry-same rules a b s t wa wb hs ht e in
@@ -363,9 +363,9 @@ member-same rules (framed f) (framed g) s t wa wb hs ht e =
 
 members-same : (rules : Rules) (xs ys : List Member) (s t : List Token) → Each (MemberBy rules) xs → Each (MemberBy rules) ys
     → NotHead IsValue s → NotHead IsValue t → NotHead (Kinds 2 6) s → NotHead (Kinds 2 6) t
-    → flatMap memberYield xs ++ s ≡ flatMap memberYield ys ++ t → (xs ≡ ys) × (s ≡ t)
+    → flatMap (memberYield frameEnd) xs ++ s ≡ flatMap (memberYield frameEnd) ys ++ t → (xs ≡ ys) × (s ≡ t)
 members-same rules =
-    pieces-same memberYield (MemberBy rules) (Kinds 2 6) (NotHead IsValue) (member-begins rules) (member-follows rules) (member-same rules)
+    pieces-same (memberYield frameEnd) (MemberBy rules) (Kinds 2 6) (NotHead IsValue) (member-begins rules) (member-follows rules) (member-same rules)
 
 -- a heading or `global_` is no value and begins no member of a block
 heading-no-value : (t : Token) → IsHeading t → IsValue t → ⊥
@@ -385,16 +385,16 @@ next-not : (H : Token → Type 0) → ((t : Token) → IsHeading t → H t → �
 next-not H f [] b = tt
 next-not H f (t ∷ s) b = f t b
 
-block-begins : (rules : Rules) (b : Block) → BlockBy rules b → Begins IsHeading (blockYield b)
+block-begins : (rules : Rules) (b : Block) → BlockBy rules b → Begins IsHeading (blockYield frameEnd b)
 unfolding blockYield
 block-begins rules b w = w .heading
 
-block-follows : (rules : Rules) (b : Block) (s : List Token) → BlockBy rules b → BlockNext (blockYield b ++ s)
+block-follows : (rules : Rules) (b : Block) (s : List Token) → BlockBy rules b → BlockNext (blockYield frameEnd b ++ s)
 unfolding blockYield
 block-follows rules b s w = block-begins rules b w
 
 block-same : (rules : Rules) (a b : Block) (s t : List Token) → BlockBy rules a → BlockBy rules b → BlockNext s → BlockNext t
-    → blockYield a ++ s ≡ blockYield b ++ t → (a ≡ b) × (s ≡ t)
+    → blockYield frameEnd a ++ s ≡ blockYield frameEnd b ++ t → (a ≡ b) × (s ≡ t)
 unfolding blockYield
 block-same rules a b s t wa wb fs ft e =
     let heading : a .heading ≡ b .heading = cc in
@@ -404,7 +404,7 @@ block-same rules a b s t wa wb fs ft e =
     (λ i. record { heading = heading i; members = all .0 i }, all .1)
 
 -- whole trees with the same tokens are equal
-pub unambiguous : (rules : Rules) (f g : File) → FileBy rules f → FileBy rules g → fileYield f ≡ fileYield g → f ≡ g
+pub unambiguous : (rules : Rules) (f g : File) → FileBy rules f → FileBy rules g → fileYield frameEnd f ≡ fileYield frameEnd g → f ≡ g
 unambiguous rules f g wf wg e =
-    pieces-same blockYield (BlockBy rules) IsHeading BlockNext (block-begins rules) (block-follows rules) (block-same rules)
-    f g [] [] wf wg tt tt tt tt (append-nil (fileYield f) ∙ e ∙ sym (append-nil (fileYield g))) .0
+    pieces-same (blockYield frameEnd) (BlockBy rules) IsHeading BlockNext (block-begins rules) (block-follows rules) (block-same rules)
+    f g [] [] wf wg tt tt tt tt (append-nil (fileYield frameEnd f) ∙ e ∙ sym (append-nil (fileYield frameEnd g))) .0

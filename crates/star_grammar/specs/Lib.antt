@@ -1,4 +1,5 @@
 pub mod Tree
 pub mod Tables
 pub mod Machine
+pub mod Layout
 pub mod Reading

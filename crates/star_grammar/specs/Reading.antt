@@ -6,7 +6,7 @@ use Prim.Native.Nat.{ℕ}
 use Rattle.star_lex.specs.Rules.{Rules, today}
 use Rattle.star_text.specs.Names.{key}
 use Rattle.star_lex.specs.Tokens.{Token, Each}
-use Rattle.star_grammar.specs.Tree.{Entry, item, looped, Member, own, framed, Block, isGlobal, File, fileYield, FileBy}
+use Rattle.star_grammar.specs.Tree.{Entry, item, looped, Member, own, framed, Block, isGlobal, File, fileYield, frameClose, FileBy}
 
 -- no name or code stands twice in the list
 abbrev pub Distinct : List (List ℕ) → Type 0
@@ -51,10 +51,10 @@ pub record FileDistinct (f : File) : Type 0 where
   pub blocks : Each BlockDistinct f
   pub codes : Distinct (flatMap blockCode f)
 
--- a reading of a row of tokens: a tree by the rules whose tokens are all of them
+-- a reading of a row of tokens: a tree by the rules whose tokens, in the layout of the rules, are all of them
 pub record ReadingBy (rules : Rules) (ts : List Token) : Type 0 where
   pub tree : File
-  pub yield : fileYield tree ≡ ts
+  pub yield : fileYield (frameClose rules) tree ≡ ts
   pub whole : FileBy rules tree
   pub distinct : FileDistinct tree
 

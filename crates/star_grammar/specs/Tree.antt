@@ -2,12 +2,12 @@
 --
 --   file   ::= block*
 --   block  ::= ( data_CODE | global_ ) ( item | loop | frame )*
---   frame  ::= save_CODE ( item | loop )* save_
+--   frame  ::= save_CODE ( item | loop )* save_          in the 1991 layout `stop_` in place of the last `save_`
 --   item   ::= NAME value
 --   loop   ::= header packet+          header ::= loop_ NAME+ ( header | stop_* )
 --   packet ::= value+ [ packet* stop_ ]     one value for each name of its level; in brackets, the packets of the deeper level if there is one
 use mathlib.Core.Path.{_≡_}
-use mathlib.Core.Bool.{Bool, true}
+use mathlib.Core.Bool.{Bool, true, cond}
 use mathlib.Core.List.{List, [], _∷_, _++_, map, flatMap}
 use Prim.Native.Nat.{ℕ, _≤_, _<_}
 use lib.Dec.{eqb}
@@ -24,6 +24,10 @@ loopStart = record { kind = 4; content = loopWord }
 
 unfoldable pub stop : Token
 stop = record { kind = 5; content = stopWord }
+
+-- what closes a frame, by the rules
+unfoldable pub frameClose : Rules → Token
+frameClose rules = cond (rules .stopCloses) stop frameEnd
 
 -- values are kinds 7 to 11
 pub record IsValue (t : Token) : Type 0 where
@@ -96,13 +100,14 @@ abbrev pub EntryBy : (rules : Rules) → Entry → Type 0
 EntryBy rules (item n v) = IsName n × IsValue v
 EntryBy rules (looped l) = LoopBy rules l
 
--- a frame: a heading, any number of items and loops, and `save_`; frames do not nest
+-- a frame: a heading, any number of items and loops, and what closes it; frames do not nest
 pub record Frame : Type 0 where
   pub heading : Token
   pub entries : List Entry
 
-unfoldable pub frameYield : Frame → List Token
-frameYield f = f .heading ∷ (flatMap entryYield (f .entries) ++ (frameEnd ∷ []))
+-- its tokens, with the token that closes frames
+unfoldable pub frameYield : (close : Token) → Frame → List Token
+frameYield close f = f .heading ∷ (flatMap entryYield (f .entries) ++ (close ∷ []))
 
 pub record FrameBy (rules : Rules) (f : Frame) : Type 0 where
   pub heading : f .heading .kind ≡ 2
@@ -113,9 +118,9 @@ pub data Member : Type 0 where
   own : Entry → Member
   framed : Frame → Member
 
-unfoldable pub memberYield : Member → List Token
-memberYield (own e) = entryYield e
-memberYield (framed f) = frameYield f
+unfoldable pub memberYield : (close : Token) → Member → List Token
+memberYield close (own e) = entryYield e
+memberYield close (framed f) = frameYield close f
 
 abbrev pub MemberBy : (rules : Rules) → Member → Type 0
 MemberBy rules (own e) = EntryBy rules e
@@ -126,8 +131,8 @@ pub record Block : Type 0 where
   pub heading : Token
   pub members : List Member
 
-unfoldable pub blockYield : Block → List Token
-blockYield b = b .heading ∷ flatMap memberYield (b .members)
+unfoldable pub blockYield : (close : Token) → Block → List Token
+blockYield close b = b .heading ∷ flatMap (memberYield close) (b .members)
 
 -- what begins a block: the heading of a data block, or `global_`
 pub data IsHeading (t : Token) : Type 0 where
@@ -146,8 +151,9 @@ pub record BlockBy (rules : Rules) (b : Block) : Type 0 where
 abbrev pub File : Type 0
 File = List Block
 
-abbrev pub fileYield : File → List Token
-fileYield f = flatMap blockYield f
+-- the tokens of a tree in the layout whose frames this token closes: one tree has a yield in each
+abbrev pub fileYield : (close : Token) → File → List Token
+fileYield close f = flatMap (blockYield close) f
 
 abbrev pub FileBy : (rules : Rules) → File → Type 0
 FileBy rules f = Each (BlockBy rules) f

@@ -18,7 +18,7 @@ use Rattle.star_find.specs.Find.{Lent, contentAt, isWanted, rowThere, refused a
 use Rattle.star_find.specs.Demands.{RowAnswer}
 use Rattle.star_find.specs.declared.Counts.{Counts}
 use Rattle.star_find.proofs.Demand1.{answer-cond, outside, meet-answers, on-answers}
-use Rattle.star_index.specs.Hash.{homeOf}
+use Rattle.star_hash.specs.Hash.{homeOf}
 use Rattle.star_index.specs.Index.{slotAt, nextSlot, checkOf, buildOf, built, slotsOf}
 use Rattle.star_index.specs.Lookup.{probe, slotAsk, slotName, findSlot}
 use Rattle.star_index.specs.Demands.{CheckAnswer, BuildAnswer, IndexAnswers}

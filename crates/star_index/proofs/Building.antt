@@ -13,11 +13,12 @@ use Rattle.star_lex.specs.Rules.{today}
 use Rattle.star_lex.specs.Tokens.{Placed}
 use Rattle.star_grammar.specs.Tables.{Rows, noRows}
 use Rattle.star_grammar.specs.Machine.{good, run, start}
+use Rattle.star_grammar.specs.Layout.{todayRow}
 use Rattle.star_read.specs.Read.{FileRows, ReadOutcome, Sizes, tokensOnly, readOf}
 use Rattle.star_read.proofs.Demand3.{read-tokens}
 use Rattle.star_index.specs.Index.{rowHome, built, checkOf, buildOf}
 use Rattle.star_index.specs.Demands.{IndexOf, IndexBuilt}
-use Rattle.star_index.proofs.Hashing.{home-inside}
+use Rattle.star_hash.proofs.Hashing.{home-inside}
 use Rattle.star_index.proofs.Indexing.{true-indexed}
 use Rattle.star_index.proofs.Exactly.{isIndexOf, check-read, check-refused}
 use Rattle.star_index.proofs.Filling.{length-filled, indexed-filled}
@@ -53,7 +54,7 @@ same-reading file words others read other e d =
     let a = read-tokens today file words (read .0) (read .1) e in
     let b = read-tokens today file others (other .0) (other .1) d in
     let ps : read .0 ≡ other .0 = accepted-same (sym (a .0 .splits) ∙ b .0 .splits) in
-    pair-same ps (good-same (sym (a .1) ∙ ap (λ ps. run today start (tokensOnly ps) noRows) ps ∙ b .1))
+    pair-same ps (good-same (sym (a .1) ∙ ap (λ ps. run today start (todayRow today (tokensOnly ps)) noRows) ps ∙ b .1))
 
 -- after acceptance by reading the builder goes by the numbers of slots and names
 pub build-read : (file : List ℕ) (words : Sizes) (slots : ℕ) (read : FileRows) → readOf file words ≡ accepted read

@@ -12,28 +12,26 @@ use Rattle.star_text.specs.Outcome.{accepted}
 use Rattle.star_text.specs.Names.{key}
 use Rattle.star_rows.specs.Rows.{wordOf, holding}
 use Rattle.star_rows.proofs.Words.{word-held}
-use Rattle.star_lex.specs.Rules.{today}
 use Rattle.star_lex.specs.Tokens.{Placed, tokenRow}
 use Rattle.star_lex.proofs.Each.{each-at}
 use Rattle.star_grammar.specs.Tree.{File}
 use Rattle.star_grammar.specs.Tables.{NameRow, Rows, nameWords}
-use Rattle.star_grammar.specs.Reading.{FileDistinct, Reading}
+use Rattle.star_grammar.specs.Reading.{FileDistinct}
 use Rattle.star_grammar.proofs.Widths.{name-wide}
 use Rattle.star_grammar.proofs.RowsOf.{IsToken}
-use Rattle.star_read.specs.Read.{Sizes, tokensOnly, readOf}
-use Rattle.star_read.proofs.Usable.{today-usable}
-use Rattle.star_read.proofs.Demand3.{rows-of-reading}
+use Rattle.star_read.specs.Read.{Sizes, readIn}
+use Rattle.star_read.proofs.InLayout.{in-today}
 use Rattle.star_find.specs.Find.{Lent, contentAt, isWanted, look, ownName, refused, rowThere, askOn, findName}
 use Rattle.star_find.specs.Demands.{contentOf}
 use Rattle.star_find.specs.declared.Counts.{Counts}
 use Rattle.star_find.proofs.Seeking.{Hit}
-use Rattle.star_find.proofs.After.{left, counted, lent-left, counts-counted, token-content, RowsAfter, rows-after}
+use Rattle.star_find.proofs.After.{left, counted, lent-left, counts-counted, token-content, RowsAfter, reading-in, rows-after}
 use Rattle.star_find.proofs.Distinct.{one-row}
-use Rattle.star_index.specs.Hash.{homeOf}
+use Rattle.star_hash.specs.Hash.{homeOf}
 use Rattle.star_index.specs.Index.{rowHome}
 use Rattle.star_index.specs.Lookup.{slotAsk, slotName, findSlot}
 use Rattle.star_index.specs.Demands.{IndexOf, IndexLookup}
-use Rattle.star_index.proofs.Hashing.{home-same, home-inside}
+use Rattle.star_hash.proofs.Hashing.{home-same, home-inside}
 use Rattle.star_index.proofs.Exactly.{index-exactly}
 use Rattle.star_index.proofs.Probing.{probe-seek}
 
@@ -49,7 +47,7 @@ row-home ps rows slots i =
     let e : suc i - 1 ≡ i = omega arith in
     rw (e, List·getD-map (λ r. r .set) (rows .names) i noName, List·getD-map (λ r. r .name) (rows .names) i noName)
 
-module _ (file : List ℕ) (words : Sizes) (slots : List ℕ) (ps : List Placed) (rows : Rows) (e : readOf file words ≡ accepted (ps, rows)) (f : File)
+module _ (file : List ℕ) (words : Sizes) (slots : List ℕ) (ps : List Placed) (rows : Rows) (e : readIn 0 file words ≡ accepted (ps, rows)) (f : File)
     (k : RowsAfter ps rows f) (set : ℕ) (name : List ℕ) where
   abbrev row : ℕ → NameRow
   row i = getD (rows .names) i noName
@@ -71,7 +69,7 @@ module _ (file : List ℕ) (words : Sizes) (slots : List ℕ) (ps : List Placed)
   unfolding nameWords
   content-inside i h =
       rw (word-held 4 nameWords name-wide noName (rows .names) (words .names) i 1 h (omega arith))
-      (token-content file words ps rows e (row i .name) (each-at (λ x. IsToken (length ps) (x .name)) (rows .names) i noName h (k .inside .name-tokens)))
+      (token-content 0 file words ps rows e (row i .name) (each-at (λ x. IsToken (length ps) (x .name)) (rows .names) i noName h (k .inside .name-tokens)))
 
   of-set : (i : ℕ) → i < length (rows .names) → isOne (suc i) ≡ true → row i .set ≡ set
   unfolding isWanted nameWords
@@ -100,8 +98,9 @@ lookup-same l c slots set name h = λ j. cond (rowThere l c (c .sets) set) (askO
 
 pub index-lookup : IndexLookup
 index-lookup file words slots ps rows e set name =
-    let a : (readOf file words ≡ accepted (ps, rows)) × IndexOf ps rows slots = index-exactly file words slots .0 ps rows .0 e in
-    let r : Reading (tokensOnly ps) = rows-of-reading today today-usable file words ps rows (a .0) .1 in
-    rw (lent-left file words ps rows (a .0), counts-counted file words ps rows (a .0))
+    let a = index-exactly file words slots .0 ps rows .0 e in
+    let d : readIn 0 file words ≡ accepted (ps, rows) = in-today file words ∙ a .0 in
+    let r = reading-in 0 file words ps rows d .0 in
+    rw (lent-left 0 file words ps rows d, counts-counted 0 file words ps rows d)
     (lookup-same (left file words ps rows) (counted ps rows) slots set name
-    (λ s. slot-own file words slots ps rows (a .0) (r .tree) (rows-after file words ps rows (a .0) r) s name (r .distinct) (a .1)))
+    (λ s. slot-own file words slots ps rows d (r .tree) (rows-after 0 file words ps rows d r) s name (r .distinct) (a .1)))

@@ -11,22 +11,19 @@ use Rattle.star_text.proofs.Outcome.{need-true, need-false}
 use Rattle.star_rows.specs.Rows.{holding}
 use Rattle.star_rows.proofs.Held.{holding-room, held-word}
 use Rattle.star_rows.proofs.Words.{word-held}
-use Rattle.star_lex.specs.Rules.{today}
 use Rattle.star_lex.specs.Table.{orEmpty}
 use Rattle.star_lex.specs.Tokens.{Placed, tokenRow}
 use Rattle.star_lex.proofs.Each.{each-at}
 use Rattle.star_lex.proofs.Held.{count-small}
 use Rattle.star_grammar.specs.Tables.{NameRow, Rows, nameWords}
-use Rattle.star_grammar.specs.Reading.{Reading}
 use Rattle.star_grammar.proofs.Widths.{name-wide}
 use Rattle.star_grammar.proofs.RowsOf.{IsToken}
-use Rattle.star_read.specs.Read.{FileRows, ReadOutcome, Sizes, tokensOnly, readOf}
+use Rattle.star_read.specs.Read.{FileRows, ReadOutcome, Sizes, readIn, readOf}
 use Rattle.star_read.specs.Answer.{readAnswer, readingOf, Tables, tablesOf, Leaves}
 use Rattle.star_read.specs.declared.Answer.{Answer}
-use Rattle.star_read.proofs.Usable.{today-usable}
-use Rattle.star_read.proofs.Demand3.{rows-of-reading}
+use Rattle.star_read.proofs.InLayout.{in-today}
 use Rattle.star_read.proofs.Accepted.{accepted-holds, answer-refused, answer-accepted}
-use Rattle.star_find.proofs.After.{token-content, RowsAfter, rows-after}
+use Rattle.star_find.proofs.After.{token-content, RowsAfter, reading-in, rows-after}
 use Rattle.star_index.specs.Index.{rowHome, isIndexed, checkOf, filled, built, buildOf, slotsOf}
 use Rattle.star_index.specs.Inner.{mark, tableHome, Unmarked}
 use Rattle.star_index.proofs.Indexing.{indexed-alike}
@@ -42,10 +39,13 @@ module _ (file : List ℕ) (words : Sizes) (ps : List Placed) (rows : Rows) (e :
   abbrev table : List ℕ
   table = holding nameWords (rows .names) (words .names)
 
+  in-0 : readIn 0 file words ≡ accepted (ps, rows)
+  in-0 = in-today file words ∙ e
+
   name-token : (i : ℕ) → i < length (rows .names) → IsToken (length ps) (row i .name)
   name-token i h =
-      let r : Reading (tokensOnly ps) = rows-of-reading today today-usable file words ps rows e .1 in
-      let k : RowsAfter ps rows (r .tree) = rows-after file words ps rows e r in
+      let r = reading-in 0 file words ps rows in-0 .0 in
+      let k : RowsAfter ps rows (r .tree) = rows-after 0 file words ps rows in-0 r in
       each-at (λ x. IsToken (length ps) (x .name)) (rows .names) i noName h (k .inside .name-tokens)
 
   -- a home by the tables is the row's
@@ -55,7 +55,7 @@ module _ (file : List ℕ) (words : Sizes) (ps : List Placed) (rows : Rows) (e :
       rw (
         word-held 4 nameWords name-wide noName (rows .names) (words .names) i 0 h (omega arith),
         word-held 4 nameWords name-wide noName (rows .names) (words .names) i 1 h (omega arith),
-        token-content file words ps rows e (row i .name) (name-token i h),
+        token-content 0 file words ps rows in-0 (row i .name) (name-token i h),
       )
       (sym (row-home ps rows slots i))
 

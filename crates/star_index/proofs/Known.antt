@@ -6,7 +6,7 @@ use Rattle.star_text.specs.Names.{key}
 use Rattle.star_read.specs.Known.{ofWords, fullCase}
 use Rattle.star_read.proofs.Known.{fullTokens, fullRows, full-read}
 use Rattle.star_find.specs.Demands.{contentOf}
-use Rattle.star_index.specs.Hash.{product, mixed, fnv, setBytes, hashOf, homeOf}
+use Rattle.star_hash.specs.Hash.{product, mixed, fnv, setBytes, hashOf, homeOf}
 use Rattle.star_index.specs.Index.{rowHome, allBelow, isFromTo, occurrences, isFull, isIndexed, nextSlot, firstFree, entered, filled, built, slotsOf}
 use Rattle.star_index.specs.Known.{IndexKnown}
 use Rattle.star_index.proofs.Exactly.{check-read}

@@ -1,4 +1,3 @@
-pub mod Hashing
 pub mod Scanning
 pub mod Indexing
 pub mod Exactly

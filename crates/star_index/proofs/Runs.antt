@@ -11,7 +11,7 @@ use lib.ListN.{length}
 use Rattle.star_text.proofs.Cases.{both, impossible}
 use Rattle.star_index.specs.Index.{slotAt, FromTo, JustOne, Indexed, isIndexed}
 use Rattle.star_index.specs.Inner.{tableHome, runStart, inRun, slotFits, slotsFit}
-use Rattle.star_index.proofs.Hashing.{home-inside}
+use Rattle.star_hash.proofs.Hashing.{home-inside}
 use Rattle.star_index.proofs.Indexing.{and-both, all-true, true-all, Full, indexed-true, true-indexed}
 use Rattle.star_index.proofs.Slots.{by-equal}
 

@@ -29,11 +29,11 @@ IndexExactly = (file : List ℕ) (words : Sizes) (slots : List ℕ)
     × ((ps : List Placed) (rows : Rows) → readOf file words ≡ accepted (ps, rows) → (IndexOf ps rows slots → ⊥) → checkOf file words slots ≡ refused 15 0)
     × ((n place : ℕ) → readOf file words ≡ refused n place → checkOf file words slots ≡ refused n place)
 
--- with an accepted index and the check's tables and counts, lookup through the index gives the plain lookup's answer, for every set and name
+-- with an accepted index and the check's tables and counts, which are those of layout 0, lookup through the index gives the plain lookup's answer, for every set and name
 abbrev pub IndexLookup : Type 0
 IndexLookup = (file : List ℕ) (words : Sizes) (slots : List ℕ) (ps : List Placed) (rows : Rows) → checkOf file words slots ≡ accepted (ps, rows)
     → (set : ℕ) (name : List ℕ)
-    → findSlot (lentAfter file words) (countsAfter file words) slots set name ≡ findName (lentAfter file words) (countsAfter file words) set name
+    → findSlot (lentAfter 0 file words) (countsAfter 0 file words) slots set name ≡ findName (lentAfter 0 file words) (countsAfter 0 file words) set name
 
 -- what is built is accepted by the check, whatever tables both are lent; after acceptance by reading it is built exactly where there are more slots than names, else 7 with place 8,
 -- and a refusal of reading is the builder's

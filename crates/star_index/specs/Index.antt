@@ -12,7 +12,7 @@ use Rattle.star_read.specs.Read.{FileRows, ReadOutcome, Sizes, readOf}
 use Rattle.star_read.specs.Answer.{Tables, sizes, readingOf, Gives}
 use Rattle.star_read.specs.declared.Answer.{Answer}
 use Rattle.star_find.specs.Demands.{contentOf}
-use Rattle.star_index.specs.Hash.{homeOf}
+use Rattle.star_hash.specs.Hash.{homeOf}
 
 -- the home of a name row of a reading among so many slots: by its set and its name
 unfoldable pub rowHome : List Placed → Rows → (slots row : ℕ) → ℕ

@@ -9,7 +9,7 @@ use Rattle.star_rows.specs.Widths.{nameWidth}
 use Rattle.star_rows.specs.Rows.{wordOf}
 use Rattle.star_lex.specs.Table.{orEmpty}
 use Rattle.star_find.specs.Find.{contentAt}
-use Rattle.star_index.specs.Hash.{homeOf}
+use Rattle.star_hash.specs.Hash.{homeOf}
 use Rattle.star_index.specs.Index.{slotAt, allBelow}
 
 -- what a slot is refused with in a lookup: 13 where it holds 0, 14 where it holds a number above the name count, else 0

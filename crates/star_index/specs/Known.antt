@@ -4,7 +4,7 @@ use mathlib.Core.List.{[], _∷_}
 use Rattle.star_text.specs.Outcome.{refused}
 use Rattle.star_read.specs.Known.{ofWords, fullCase}
 use Rattle.star_read.specs.Read.{readOf}
-use Rattle.star_index.specs.Hash.{basis, fnv, hashOf}
+use Rattle.star_hash.specs.Hash.{basis, fnv, hashOf}
 use Rattle.star_index.specs.Index.{checkOf, filled, buildOf, slotsOf}
 
 abbrev pub IndexKnown : Type 0

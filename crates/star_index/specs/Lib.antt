@@ -1,4 +1,3 @@
-pub mod Hash
 pub mod Index
 pub mod Lookup
 pub mod Inner

@@ -10,7 +10,7 @@ use Rattle.star_rows.specs.Rows.{wordOf}
 use Rattle.star_find.specs.Find.{Lent, contentAt, refused, meet, isWanted, rowThere, askOn}
 use Rattle.star_find.specs.declared.Counts.{Counts}
 use Rattle.star_find.specs.declared.Found.{Found}
-use Rattle.star_index.specs.Hash.{homeOf}
+use Rattle.star_hash.specs.Hash.{homeOf}
 use Rattle.star_index.specs.Index.{slotAt, nextSlot}
 
 -- so many slots from this one on: 13 at a 0 or when no slot is left, 14 at a number above the name count; a row of another set is passed over

@@ -13,13 +13,10 @@ ghost use Rattle.star_rows.specs.Rows.{wordOf};
 ghost use Rattle.star_read.specs.Answer.{tables};
 ghost use Rattle.star_find.specs.Find.{lent, refused, contentAt, isWanted, matchOf, askGlobals, askOn};
 ghost use Rattle.star_find.specs.declared.Match.the-variants.{Other};
-ghost use Rattle.star_index.specs.Hash.{prime, product, mixed, fnv as Hash·fnv, hashOf, homeOf};
+ghost use Rattle.star_hash.specs.Hash.{homeOf};
 ghost use Rattle.star_index.specs.Index.{slotAt, JustOne, isIndexed, nextSlot, firstFree, filled, Checks, Builds};
 ghost use Rattle.star_index.specs.Lookup.{probe as Lookup·probe, slotAsk, findSlot};
 ghost use Rattle.star_index.specs.Inner.{refusalOf, tableHome, runStart, inRun, slotFits, slotsFit, mark as Inner·mark, placeOf, Unmarked, Marked, Apart, Cleaned};
-
-// Where 32-bit FNV-1a begins.
-pub const BASIS: u32 = 2166136261;
 
 // The mark of a name row: above every token row.
 const MARK: u32 = 2147483648;
@@ -27,51 +24,13 @@ const MARK: u32 = 2147483648;
 // The words of a row of table 3.
 const WIDTH: usize = star_rows::NAME_WIDTH as usize;
 
-// The product with the prime of FNV-1a, modulo two to the 32.
-fn times_prime(a: u32) -> u32
-    ensures { λ r. ⌜ r ≡ product a prime ⌝ }
-{
-    ((a as u64 * 16777619) % 4294967296) as u32
-}
-
-// The hash with a byte more.
-fn mix(h: u32, byte: u32) -> u32
-    ensures { λ r. ⌜ r ≡ mixed h byte ⌝ }
-{
-    times_prime(h ^ byte)
-}
-
-// 32-bit FNV-1a of these bytes, from a hash on.
-pub fn fnv(h: u32, bytes: &[u8]) -> u32
-    ensures { λ r. ⌜ r ≡ Hash·fnv h (now (bytes .entry)) ⌝ }
-{
-    let mut state = h;
-    let mut i = 0;
-    while i < bytes.len() {
-        state = mix(state, bytes[i] as u32);
-        i += 1;
-    }
-    state
-}
-
-// The hash of a name of a set: the four bytes of the set's number, lowest first, then the name.
-pub fn hash(set: u32, name: &[u8]) -> u32
-    ensures { λ r. ⌜ r ≡ hashOf set (now (name .entry)) ⌝ }
-{
-    let first = mix(BASIS, set % 256);
-    let second = mix(first, set / 256 % 256);
-    let third = mix(second, set / 65536 % 256);
-    let fourth = mix(third, set / 16777216 % 256);
-    fnv(fourth, name)
-}
-
 // The slot where a name of a set belongs, of so many.
 fn home_of(slots: usize, set: u32, name: &[u8]) -> usize
     requires { ⌜ 0 < slots ⌝ }
     ensures { λ r. ⌜ r ≡ homeOf slots set (now (name .entry)) ⌝ }
     ensures { λ r. ⌜ r < slots ⌝ }
 {
-    hash(set, name) as usize % slots
+    star_hash::hash(set, name) as usize % slots
 }
 
 // The slot where a name row belongs, of so many.

@@ -20,3 +20,4 @@ pub mod Steps
 pub mod Table
 pub mod WellFormed
 pub mod Words
+pub mod SameRules

@@ -1,8 +1,9 @@
 -- Every token of a split is well formed for its kind: each was read as a lexeme of bytes that are all allowed.
-use mathlib.Core.Path.{_≡_, refl, _∙_}
+use mathlib.Core.Path.{_≡_, refl, sym, _∙_}
 use mathlib.Core.Bool.{Bool, true}
 use mathlib.Core.List.{List, map}
 use Prim.Native.Nat.{ℕ}
+use native.Mathlib.Omega.{arith}
 use Rattle.star_text.specs.Bytes.{isAllowed, all}
 use Rattle.star_lex.specs.Rules.{Rules, today, atLevels}
 use Rattle.star_lex.specs.Tokens.{Token, Placed, Each}
@@ -28,17 +29,21 @@ well-formed-by rules file ps e = steps-well-formed rules (accepted-steps rules f
 pub split-well-formed : (file : List ℕ) (ps : List Placed) → tokensOf file ≡ accepted ps → Each WellFormed (map (λ p. p .token) ps)
 split-well-formed = well-formed-by today
 
+-- line ends and how long names and codes may be decide it
+pub formed-same : {rules others : Rules} {t : Token} → rules .pairs ≡ others .pairs → rules .longest ≡ others .longest → FormedBy rules t → FormedBy others t
+formed-same p l (block x xs e h) = block x xs e (omega (arith, l, h))
+formed-same p l (frame x xs e h) = frame x xs e (omega (arith, l, h))
+formed-same p l frameEnd = frameEnd
+formed-same p l loop = loop
+formed-same p l stop = stop
+formed-same p l (name x xs e h) = name x xs e (omega (arith, l, h))
+formed-same p l (word x xs e o) = word x xs e o
+formed-same p l (reference x xs e) = reference x xs e
+formed-same p l (single c a e) = single c a e
+formed-same p l (double c a e) = double c a e
+formed-same {rules} {others} p l (text c a e) = text c a (fieldable-same others rules (sym p) c ∙ e)
+formed-same p l global = global
+
 -- the number of levels has no part in it
 pub formed-levels : {rules : Rules} {t : Token} (n : ℕ) → FormedBy rules t → FormedBy (atLevels rules n) t
-formed-levels n (block x xs e h) = block x xs e h
-formed-levels n (frame x xs e h) = frame x xs e h
-formed-levels n frameEnd = frameEnd
-formed-levels n loop = loop
-formed-levels n stop = stop
-formed-levels n (name x xs e h) = name x xs e h
-formed-levels n (word x xs e o) = word x xs e o
-formed-levels n (reference x xs e) = reference x xs e
-formed-levels n (single c a e) = single c a e
-formed-levels n (double c a e) = double c a e
-formed-levels {rules} n (text c a e) = text c a (fieldable-same (atLevels rules n) rules refl c ∙ e)
-formed-levels n global = global
+formed-levels n h = formed-same refl refl h

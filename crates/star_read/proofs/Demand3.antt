@@ -18,7 +18,9 @@ use Rattle.star_lex.proofs.Answers.{in-fits}
 use Rattle.star_grammar.specs.Tables.{Rows, noRows, rowsOf}
 use Rattle.star_grammar.specs.Reading.{ReadingBy}
 use Rattle.star_grammar.specs.Machine.{start, good, run}
-use Rattle.star_grammar.proofs.Unambiguous.{unambiguous}
+use Rattle.star_grammar.specs.Layout.{todayRow}
+use Rattle.star_grammar.proofs.Yields.{one-tree}
+use Rattle.star_grammar.proofs.Images.{row-length}
 use Rattle.star_unique.specs.Repeat.{nothing}
 use Rattle.star_unique.proofs.Clean.{Clean, clean-repeat}
 use Rattle.star_read.specs.Read.{FileRows, ReadOutcome, Sizes, tokensOnly, decide, grammarOf, rowsFit, readBy}
@@ -31,7 +33,7 @@ use Rattle.star_read.proofs.FirstBad.{verdict-bad}
 
 -- a row that the grammar accepts
 pub accepted-verdict : (rules : Rules) (ps qs : List Placed) (size : ℕ) (rows : Rows) (o : ReadOutcome) → Verdict rules ps size o → o ≡ accepted (qs, rows)
-    → (ps ≡ qs) × (run rules start (tokensOnly ps) noRows ≡ good rows) × Clean nothing (tokensOnly ps)
+    → (ps ≡ qs) × (run rules start (todayRow rules (tokensOnly ps)) noRows ≡ good rows) × Clean nothing (todayRow rules (tokensOnly ps))
 accepted-verdict rules ps qs size rows o (Verdict.reads u e c) q =
     let same : _≡_ {A = FileRows} (ps, u) (qs, rows) = accepted-same q in
     (ap (λ p. p .0) same, e ∙ ap (λ p. good (p .1)) same, c)
@@ -43,18 +45,18 @@ accepted-verdict rules ps qs size rows o (Verdict.ends n place i l c st r w k) d
 pub reading-accepted : (rules : Rules) (ps : List Placed) (size : ℕ) (r : ReadingBy rules (tokensOnly ps)) → grammarOf rules size ps ≡ accepted (ps, rowsOf (r .tree))
 unfolding grammarOf decide
 reading-accepted rules ps size r =
-    rw (reading-run rules (tokensOnly ps) r, clean-repeat nothing (tokensOnly ps) (reading-clean rules (tokensOnly ps) r), length-map, le-ltb (length ps) (length ps) (omega arith))
+    rw (reading-run rules (tokensOnly ps) r, clean-repeat nothing (todayRow rules (tokensOnly ps)) (reading-clean rules (tokensOnly ps) r), row-length rules (tokensOnly ps), length-map, le-ltb (length ps) (length ps) (omega arith))
 
 pub one-reading : OneReading
-one-reading rules ts r s = unambiguous rules (r .tree) (s .tree) (r .whole) (s .whole) (r .yield ∙ sym (s .yield))
+one-reading rules ts r s = one-tree rules (r .tree) (s .tree) (r .whole) (s .whole) (r .yield ∙ sym (s .yield))
 
 -- the tokens of a file that is read, their run and their names
 pub read-tokens : (rules : Rules) (file : List ℕ) (words : Sizes) (ps : List Placed) (rows : Rows) → readBy rules file words ≡ accepted (ps, rows)
-    → Tokenized rules file words ps × (run rules start (tokensOnly ps) noRows ≡ good rows) × Clean nothing (tokensOnly ps)
+    → Tokenized rules file words ps × (run rules start (todayRow rules (tokensOnly ps)) noRows ≡ good rows) × Clean nothing (todayRow rules (tokensOnly ps))
 unfolding readBy
 read-tokens rules file words ps rows e =
     let (qs, d, h) = then-accepted (tokensInBy rules file (words .tokens)) _ (ps, rows) e in
-    let v : (qs ≡ ps) × (run rules start (tokensOnly qs) noRows ≡ good rows) × Clean nothing (tokensOnly qs)
+    let v : (qs ≡ ps) × (run rules start (todayRow rules (tokensOnly qs)) noRows ≡ good rows) × Clean nothing (todayRow rules (tokensOnly qs))
     = accepted-verdict rules qs ps (length file) rows _ (verdict rules qs (length file)) (fits-accepted words _ (ps, rows) h) in
     let f = in-fits rules file (words .tokens) qs d in
     rw (← (v .0)) (record { small = f .0; splits = f .1; room = f .2 }, v .1, v .2)
@@ -87,7 +89,7 @@ fair-bad rules usable file words ps f n place e = by (grammarOf rules (length fi
     by : (o : ReadOutcome) → Verdict rules ps (length file) o → then o (rowsFit words) ≡ refused n place → Bad rules file ps n place
     by (refused m i) v d = verdict-bad rules usable file words ps (f .tokenized) n place (refused m i) v d
     by (accepted (qs, rows)) v d =
-        let k : (ps ≡ qs) × (run rules start (tokensOnly ps) noRows ≡ good rows) × Clean nothing (tokensOnly ps) = accepted-verdict rules ps qs (length file) rows _ v refl in
+        let k : (ps ≡ qs) × (run rules start (todayRow rules (tokensOnly ps)) noRows ≡ good rows) × Clean nothing (todayRow rules (tokensOnly ps)) = accepted-verdict rules ps qs (length file) rows _ v refl in
         absurd (refused≢accepted n place (ps, rows) (sym (rw (← (k .0)) at d) ∙ accepted-fits rules usable file words ps f rows (k .1) (k .2)))
 
 pub place-of-refusal : PlaceOfRefusal

@@ -1,6 +1,6 @@
 -- The first bad token of a file whose tokens fit table 1: the verdict's token is the only one that begins no file while those before it do, and its
 -- number is the one that the machine gives there.
-use mathlib.Core.Path.{_≡_, refl, sym, ap, _∙_}
+use mathlib.Core.Path.{_≡_, refl, sym, ap, _∙_, subst}
 use mathlib.Core.List.{List, [], _∷_, _++_, map-append, append-nil}
 use Prim.Native.Nat.{ℕ}
 use lib.ListN.{length}
@@ -13,7 +13,9 @@ use Rattle.star_lex.proofs.Cases.{impossible}
 use Rattle.star_lex.proofs.Each.{each-append}
 use Rattle.star_grammar.specs.Machine.{start}
 use Rattle.star_grammar.specs.Tables.{noRows}
-use Rattle.star_grammar.proofs.Walking.{walks-first}
+use Rattle.star_grammar.specs.Layout.{todayRow}
+use Rattle.star_grammar.proofs.Images.{rowImage, row-snoc}
+use Rattle.star_grammar.proofs.Walking.{Walks, walks-first}
 use Rattle.star_read.specs.Read.{ReadOutcome, Sizes, tokensOnly}
 use Rattle.star_read.specs.Demands.{Usable, Begins, Tokenized, NumberAt, Bad}
 use Rattle.star_read.proofs.Begin.{begins-first, walks-shape}
@@ -51,7 +53,9 @@ module _ (rules : Rules) where
         let m : 9 ≡ n = cc in
         let h : i ≡ place = cc in
         rw (← m, ← h, l)
-        (Bad.token 9 p t q e (part-begins rules usable file words ps f p (t ∷ q) e (walks-first rules (tokensOnly p) (t .token ∷ []) start noRows w) c) (taken-begins rules p t k)
+        (Bad.token 9 p t q e (part-begins rules usable file words ps f p (t ∷ q) e
+        (walks-first rules (todayRow rules (tokensOnly p)) (rowImage rules (tokensOnly p) (t .token) ∷ []) start noRows
+        (subst (λ xs. Walks rules start xs noRows) (row-snoc rules (tokensOnly p) (t .token)) w)) c) (taken-begins rules p t k)
         (NumberAt.taken (walks-shape rules usable (tokensOnly p ++ (t .token ∷ [])) (formed-at p t q e) w)))
     verdict-bad n place o (Verdict.halts j i p t q e l c st r w k) d =
         let m : j ≡ n = cc in

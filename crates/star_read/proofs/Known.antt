@@ -11,13 +11,14 @@ use Rattle.star_lex.specs.Plain.{ends, newline, closing, indent, plainToken, pl
 use Rattle.star_lex.specs.Answer.{tokensInBy, tokensFit}
 use Rattle.star_grammar.specs.Tables.{Rows, noRows, pass, openLoop, putSet, putName, putPacket, putValue, firstOf, linkTo, linkedFrom, linked, setWords, nameWords, packetWords, valueWords}
 use Rattle.star_grammar.specs.Machine.{sortOf, setOf, parentOf, between, filled, fill, valueAt, begin, headerStep, noValue, noValueAt, bodyStep, startStep, namedStep, step, endBetween, endBody, endRun, run as machine-run}
+use Rattle.star_grammar.specs.Layout.{todayRow}
 use Rattle.star_unique.specs.Repeat.{among, nothing, isTaken, takeBlock, takeFrame, endFrame, takeName, takes, firstRepeat}
 use Rattle.star_read.specs.Read.{tokenPlace, decide, grammarOf, roomFor, rowsFit, readBy, readOf}
 use Rattle.star_read.specs.Answer.{tablesOf}
 use Rattle.star_read.specs.Known.{Known, readTokens, ofWords, fullCase}
 
 pub known : Known
-unfolding flatMap isBlank isTerminate isWhite isPrintable isAllowed leading firstRefused holding tokenRow opening dataWord saveWord loopWord stopWord globalWord after starts whiteNext quoted lineEnd closes closeLength field limited blockWord frameWord alone nameWord referenceWord either wordLexeme wordFrom quotedLexeme fieldLexeme lexeme moreOf before enter split tokensBy ends newline closing indent plainToken plainBy tokensInBy tokensFit then need noRows pass openLoop putSet putName putPacket putValue firstOf linkTo linkedFrom linked setWords nameWords packetWords valueWords sortOf setOf parentOf between filled fill valueAt begin headerStep noValue noValueAt bodyStep startStep namedStep step endBetween endBody endRun machine-run key equal among nothing isTaken takeBlock takeFrame endFrame takeName takes firstRepeat tokenPlace decide grammarOf roomFor rowsFit readBy tablesOf readTokens
+unfolding flatMap isBlank isTerminate isWhite isPrintable isAllowed leading firstRefused holding tokenRow opening dataWord saveWord loopWord stopWord globalWord after starts whiteNext quoted lineEnd closes closeLength field limited blockWord frameWord alone nameWord referenceWord either wordLexeme wordFrom quotedLexeme fieldLexeme lexeme moreOf before enter split tokensBy ends newline closing indent plainToken plainBy tokensInBy tokensFit then need noRows pass openLoop putSet putName putPacket putValue firstOf linkTo linkedFrom linked setWords nameWords packetWords valueWords sortOf setOf parentOf between filled fill valueAt begin headerStep noValue noValueAt bodyStep startStep namedStep step endBetween endBody endRun machine-run key equal among nothing isTaken takeBlock takeFrame endFrame takeName takes firstRepeat tokenPlace decide todayRow grammarOf roomFor rowsFit readBy tablesOf readTokens
 known = (refl, refl, refl, refl, refl, refl, refl, refl, refl, refl, refl, refl)
 
 -- the tokens and the rows of the full case
@@ -49,9 +50,9 @@ fullRows =
 
 -- in tables of so many words as the program has
 pub full-read : readOf fullCase (ofWords 16384) ≡ accepted (fullTokens, fullRows)
-unfolding isBlank isTerminate isWhite isPrintable isAllowed leading firstRefused dataWord saveWord loopWord stopWord globalWord after starts whiteNext quoted lineEnd closes closeLength field limited blockWord frameWord alone nameWord referenceWord either wordLexeme wordFrom quotedLexeme fieldLexeme lexeme moreOf before enter split tokensBy tokensInBy tokensFit then need noRows pass openLoop putSet putName putPacket putValue firstOf linkTo linkedFrom linked sortOf setOf parentOf between filled fill valueAt begin headerStep noValue noValueAt bodyStep startStep namedStep step endBetween endBody endRun machine-run key equal among nothing isTaken takeBlock takeFrame endFrame takeName takes firstRepeat tokenPlace decide grammarOf roomFor rowsFit readBy
+unfolding isBlank isTerminate isWhite isPrintable isAllowed leading firstRefused dataWord saveWord loopWord stopWord globalWord after starts whiteNext quoted lineEnd closes closeLength field limited blockWord frameWord alone nameWord referenceWord either wordLexeme wordFrom quotedLexeme fieldLexeme lexeme moreOf before enter split tokensBy tokensInBy tokensFit then need noRows pass openLoop putSet putName putPacket putValue firstOf linkTo linkedFrom linked sortOf setOf parentOf between filled fill valueAt begin headerStep noValue noValueAt bodyStep startStep namedStep step endBetween endBody endRun machine-run key equal among nothing isTaken takeBlock takeFrame endFrame takeName takes firstRepeat tokenPlace decide todayRow grammarOf roomFor rowsFit readBy
 full-read = refl
 
 pub empty-read : readOf [] (ofWords 16384) ≡ accepted ([], noRows)
-unfolding leading firstRefused split tokensBy tokensInBy tokensFit then need noRows linkedFrom linked endRun machine-run nothing firstRepeat decide grammarOf roomFor rowsFit readBy
+unfolding leading firstRefused split tokensBy tokensInBy tokensFit then need noRows linkedFrom linked endRun machine-run nothing firstRepeat decide todayRow grammarOf roomFor rowsFit readBy
 empty-read = refl

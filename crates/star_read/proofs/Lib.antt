@@ -18,3 +18,5 @@ pub mod Starting
 pub mod Accepted
 pub mod Windows
 pub mod Longest
+pub mod InLayout
+pub mod Places

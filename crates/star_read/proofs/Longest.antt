@@ -20,6 +20,7 @@ use Rattle.star_lex.proofs.Longest.{SameOrFour, cut, tokens-cut, tokens-lower, 
 use Rattle.star_grammar.specs.Tables.{Rows, noRows}
 use Rattle.star_grammar.specs.Machine.{start}
 use Rattle.star_grammar.proofs.Longest.{run-longest}
+use Rattle.star_grammar.specs.Layout.{todayRow}
 use Rattle.star_unique.specs.Repeat.{nothing, firstRepeat}
 use Rattle.star_read.specs.Read.{FileRows, Sizes, tokensOnly, decide, grammarOf, rowsFit, readBy}
 use Rattle.star_read.specs.Demands.{Tokenized, FirstLonger, OldFilesReadAsBefore, OldBenchRefuses, OldBenchSameOrFour}
@@ -28,8 +29,8 @@ use Rattle.star_read.proofs.Demand3.{read-tokens}
 module _ (rules : Rules) (old : ℕ) where
   -- the grammar sees kinds, names and codes, and no limit of their bytes
   grammar-longest : (size : ℕ) (ps : List Placed) → grammarOf (atLongest rules old) size ps ≡ grammarOf rules size ps
-  unfolding grammarOf
-  grammar-longest size ps = ap (decide size ps (firstRepeat nothing (tokensOnly ps))) (run-longest rules old start (tokensOnly ps) noRows)
+  unfolding grammarOf todayRow
+  grammar-longest size ps = ap (decide size ps (firstRepeat nothing (todayRow rules (tokensOnly ps)))) (run-longest rules old start (todayRow rules (tokensOnly ps)) noRows)
 
   -- a file that splits in the same way is read in the same way
   split-read : (file : List ℕ) (words : Sizes) → tokensBy (atLongest rules old) file ≡ tokensBy rules file

@@ -1,29 +1,36 @@
 -- Which of 8 to 11 is given: the number of the first bad token, which is the only one. At `global_` it is 8 or 10, since names, codes and levels
--- decide nothing there.
-use mathlib.Core.Path.{_≡_, refl, sym, _∙_}
+-- decide nothing there; and so at a `save_` alone where `stop_` closes frames, which stands in no file.
+use mathlib.Core.Path.{_≡_, refl, sym, ap, _∙_, subst}
 use mathlib.Core.List.{List, [], _∷_, _++_, map-append}
+use mathlib.Core.Bool.{true}
 use mathlib.Core.Logic.{_⊎_, inl, inr}
 use Prim.Native.Nat.{ℕ, _+_}
 use native.Mathlib.Omega.{arith}
 use lib.Seq.{append-snoc}
 use Rattle.star_lex.specs.Rules.{Rules, atLevels}
-use Rattle.star_lex.specs.Tokens.{Token, Placed}
+use Rattle.star_lex.specs.Tokens.{Token, Placed, Each}
+use Rattle.star_lex.proofs.Each.{each-append}
+use Rattle.star_grammar.specs.Tree.{File, frameEnd, frameClose, fileYield, FileBy}
+use Rattle.star_grammar.proofs.Yields.{file-old}
 use Rattle.star_grammar.specs.Tables.{Rows, noRows}
 use Rattle.star_grammar.specs.Machine.{Sort, State, start, within, named, header, body, Step, go, refuse, headerStep, step}
+use Rattle.star_grammar.specs.Layout.{todayRow}
+use Rattle.star_grammar.proofs.Images.{rowImage, row-snoc, same-image, any-row}
 use Rattle.star_grammar.proofs.Sorts.{sort-global, step-sort}
 use Rattle.star_grammar.proofs.Walking.{Walks, walk-step, halted}
 use Rattle.star_grammar.proofs.Limits.{walk-limit, walks-limit}
 use Rattle.star_unique.specs.Repeat.{nothing}
 use Rattle.star_unique.proofs.Seen.{takesAll}
-use Rattle.star_unique.proofs.Clean.{clean-append}
+use Rattle.star_unique.proofs.Clean.{Clean, clean-append}
 use Rattle.star_unique.proofs.Names.{other-taken}
 use Rattle.star_read.specs.Read.{tokensOnly}
-use Rattle.star_read.specs.Demands.{Begins, NumberAt, NumberAtEnd, RefusalNumber, NumbersExclude, GlobalNumber, Bad}
+use Rattle.star_read.specs.Demands.{Begins, BeginsShape, NumberAt, NumberAtEnd, RefusalNumber, NumbersExclude, GlobalNumber, SaveNumber, Bad}
 use Rattle.star_read.proofs.Begin.{begins-walks, begins-clean, shape-walks}
-use Rattle.star_read.proofs.FairFile.{part-begins}
+use Rattle.star_read.proofs.FairFile.{row-next, part-begins}
 use Rattle.star_read.proofs.Numbers as Numbers
 use Rattle.star_read.proofs.FirstBad.{one-place, begins-part, next-begins}
 use Rattle.star_read.proofs.Demand3.{fair-bad}
+use Rattle.star_read.proofs.Places.{NotEnd, old-none}
 
 -- the number of a file's first bad token, or of its end
 abbrev NumberOf : (rules : Rules) → List Placed → ℕ → Type 0
@@ -80,18 +87,56 @@ global-number rules usable file words ps f n place e p t q i b k kind = at (refu
     parts : ps ≡ (p ++ (t ∷ [])) ++ q
     parts = i ∙ sym (append-snoc p t q)
 
+    -- it is `global_` in each layout
+    image : rowImage rules (tokensOnly p) (t .token) ≡ t .token
+    image = same-image rules (tokensOnly p) (t .token) (λ a. omega (arith, a, kind)) (λ a. omega (arith, a, kind))
+
+    next : todayRow rules (tokensOnly p) ++ (rowImage rules (tokensOnly p) (t .token) ∷ []) ≡ todayRow rules (tokensOnly p) ++ (t .token ∷ [])
+    next = ap (λ x. todayRow rules (tokensOnly p) ++ (x ∷ [])) image
+
     -- it would begin a file, since it repeats nothing
-    begins : Walks rules start row noRows → ⊥
+    begins : Walks rules start (todayRow rules (tokensOnly p) ++ (t .token ∷ [])) noRows → ⊥
     begins w =
-        k (part-begins rules usable file words ps (f .tokenized) (p ++ (t ∷ [])) q parts (rw map-append w)
-        (rw map-append (clean-append nothing (tokensOnly p) (t .token ∷ []) .1 (
+        k (part-begins rules usable file words ps (f .tokenized) (p ++ (t ∷ [])) q parts
+        (subst (λ ts. Walks rules start ts noRows) (sym (row-next rules p t ∙ next)) w)
+        (subst (Clean nothing) (sym (row-next rules p t ∙ next)) (clean-append nothing (todayRow rules (tokensOnly p)) (t .token ∷ []) .1 (
           begins-clean rules (tokensOnly p) b,
-          (other-taken (takesAll nothing (tokensOnly p)) (t .token) (λ a. omega arith) (λ a. omega arith) (λ a. omega arith), tt),
+          (other-taken (takesAll nothing (todayRow rules (tokensOnly p))) (t .token) (λ a. omega (arith, a, kind)) (λ a. omega (arith, a, kind)) (λ a. omega (arith, a, kind)), tt),
         ))))
 
     at : {m : ℕ} → NumberAt rules (tokensOnly p) (t .token) m → (m ≡ 8) ⊎ (m ≡ 10)
-    at (NumberAt.taken s) = absurd (begins (shape-walks rules row s))
+    at (NumberAt.taken s) = absurd (begins (subst (λ ts. Walks rules start ts noRows) (row-snoc rules (tokensOnly p) (t .token) ∙ next) (shape-walks rules row s)))
     at (NumberAt.deep g limit s) =
-        absurd (begins (global-walks rules (tokensOnly p) (t .token) kind (begins-walks rules (tokensOnly p) b) limit (shape-walks (atLevels rules limit) row s)))
+        let w : Walks rules start (todayRow rules (tokensOnly p)) noRows = begins-walks rules (tokensOnly p) b in
+        let v : Walks (atLevels rules limit) start (todayRow (atLevels rules limit) row) noRows = shape-walks (atLevels rules limit) row s in
+        absurd (begins (global-walks rules (todayRow rules (tokensOnly p)) (t .token) kind w limit
+        (subst (λ ts. Walks (atLevels rules limit) start ts noRows) (any-row rules limit (tokensOnly p) (t .token) w v ∙ next) v)))
+    at (NumberAt.packet g v h) = inr refl
+    at (NumberAt.other g h) = inl refl
+
+-- a yield in which `stop_` closes frames has no `save_` alone
+yield-none : (rules : Rules) → rules .stopCloses ≡ true → (f : File) → FileBy rules f → Each NotEnd (fileYield (frameClose rules) f)
+unfolding frameClose
+yield-none rules e f w = rw e (subst (Each NotEnd) (file-old rules f w) (old-none (fileYield frameEnd f)))
+
+none-within : (p : List Token) (t : Token) (q rest : List Token) → t .kind ≡ 3 → Each NotEnd ((p ++ (t ∷ q)) ++ rest) → ⊥
+none-within p t q rest k h = each-append NotEnd p (t ∷ q) .0 (each-append NotEnd (p ++ (t ∷ q)) rest .0 h .0) .1 .0 k
+
+module _ (rules : Rules) (e : rules .stopCloses ≡ true) (p : List Token) (t : Token) (k : t .kind ≡ 3) where
+  save-shape : BeginsShape rules (p ++ (t ∷ [])) → ⊥
+  save-shape b = none-within p t [] (b .rest) k (subst (Each NotEnd) (b .yield ∙ b .starts) (yield-none rules e (b .tree) (b .whole)))
+
+  save-begins : Begins rules (p ++ (t ∷ [])) → ⊥
+  save-begins b =
+      none-within p t [] (b .rest) k (subst (Each NotEnd) (b .reading .yield ∙ b .starts) (yield-none rules e (b .reading .tree) (b .reading .whole)))
+
+pub save-number : SaveNumber
+save-number rules usable e file words ps f n place r p t q i b k =
+    let none : Begins rules (tokensOnly (p ++ (t ∷ []))) → ⊥ = λ h. save-begins rules e (tokensOnly p) (t .token) k (subst (Begins rules) (map-append (λ x. x .token) p (t ∷ [])) h) in
+    (none, at (refusal-number rules usable file words ps f n place r .0 p t q i b none))
+  where
+    at : {m : ℕ} → NumberAt rules (tokensOnly p) (t .token) m → (m ≡ 8) ⊎ (m ≡ 10)
+    at (NumberAt.taken s) = absurd (save-shape rules e (tokensOnly p) (t .token) k s)
+    at (NumberAt.deep g limit s) = absurd (save-shape (atLevels rules limit) e (tokensOnly p) (t .token) k s)
     at (NumberAt.packet g v h) = inr refl
     at (NumberAt.other g h) = inl refl

@@ -11,26 +11,26 @@ use Rattle.star_text.proofs.Cases.{impossible, cond-cases}
 use Rattle.star_rows.specs.Widths.{setWidth, nameWidth, packetWidth, valueWidth}
 use Rattle.star_rows.specs.Rows.{holding, clearedFrom}
 use Rattle.star_rows.proofs.Stored.{stored-holding}
-use Rattle.star_lex.specs.Rules.{today}
+use Rattle.star_lex.specs.Rules.{layoutRules}
 use Rattle.star_lex.specs.Tokens.{Placed, tokenRow}
 use Rattle.star_lex.specs.Split.{placed, tokensOf}
 use Rattle.star_grammar.specs.Tables.{Rows, noRows, setWords, nameWords, packetWords, valueWords}
 use Rattle.star_grammar.specs.Machine.{Run, bad, good, run, start}
-use Rattle.star_parse.specs.Parsed.{FourTables, Answers, Accepted, kindTokens, rowsRun}
+use Rattle.star_grammar.specs.Layout.{todayRow}
+use Rattle.star_parse.specs.Parsed.{FourTables, Answers, Accepted, rowsRun}
 use Rattle.star_parse.specs.declared.Parsed.{Parsed}
 use Rattle.star_grammar.proofs.Widths.{set-wide, name-wide, packet-wide, value-wide}
-use Rattle.star_parse.proofs.RunKinds.{run-holding, rows-run}
-use Rattle.star_lex.specs.Holds.{Holds, fileTokens}
+use Rattle.star_lex.specs.Holds.{fileTokens}
 use Rattle.star_unique.specs.Repeat.{nothing, firstRepeat}
-use Rattle.star_lex.proofs.Held.{count-small}
 use Rattle.star_read.specs.Read.{ReadOutcome, FileRows, Sizes, decide, roomFor, rowsFit, grammarOf}
 use Rattle.star_read.specs.Demands.{Room}
 use Rattle.star_read.specs.Answer.{readAnswer, tables, tablesOf, words, Leaves, Tables}
-use Rattle.star_read.specs.Judged.{judgedOf, Ran, ClearedBehind}
+use Rattle.star_read.specs.Judged.{HoldsToday, judgedOf, Ran, Numbered, ClearedBehind}
 use Rattle.star_read.specs.declared.Answer.{Answer}
 use Rattle.star_read.specs.declared.Judged.{Judged}
 use Rattle.star_read.proofs.Fitting.{rows-room}
 use Rattle.star_read.proofs.Judging.{run-number}
+use Rattle.star_read.proofs.Places.{held-run}
 
 pub judged-refused : (o : ReadOutcome) (j : Judged) → j ≡ judgedOf o → (j .refusal ≡ 0 → ⊥) → o ≡ refused (j .refusal) (j .place)
 unfolding judgedOf
@@ -115,16 +115,6 @@ pub answer-ran : (x : Run) (count : ℕ) (before after : FourTables) (r : Parsed
 answer-ran (bad n i) count before after r a = (a .refusal, a .tokens)
 answer-ran (good rows) count before after r a = (a .refusal, a .tokens, a .sets, a .names, a .packets, a .values)
 
--- the run over the kinds of a table that holds a file's tokens is the run over the tokens
-pub held-run : (file table : List ℕ) (count : ℕ) → Holds file table count
-    → rowsRun count table ≡ run today start (fileTokens file) noRows
-held-run file table count h =
-    let ps : List Placed = placed (tokensOf file) in
-    rows-run count table (omega (arith, h .room, h .count-is)) (count-small file table count h)
-    ∙ ap (λ n. run today start (kindTokens n table) noRows) (h .count-is)
-    ∙ ap (λ t. run today start (kindTokens (length ps) t) noRows) (h .rows)
-    ∙ run-holding today start ps (length table) noRows
-
 -- the tables 2 to 5 keep their lengths
 pub record SameSizes (before after : FourTables) : Type 0 where
   pub sets : length (after .sets) ≡ length (before .sets)
@@ -138,26 +128,33 @@ sizesOf n t = words n (length (t .sets)) (length (t .names)) (length (t .packets
 same-words : (n : ℕ) (before after : FourTables) → SameSizes before after → sizesOf n after ≡ sizesOf n before
 same-words n before after k = rw (k .sets, k .names, k .packets, k .values)
 
-module _ (file table : List ℕ) (count : ℕ) (h : Holds file table count) (before mid : FourTables) (k : SameSizes before mid) (r : Parsed)
-    (a : Answers count (rowsRun count table) before r mid) (j : Judged)
-    (e : j ≡ judgedOf (then (grammarOf today (length file) (placed (tokensOf file))) (rowsFit (sizesOf (length table) mid)))) where
-  answers : Answers count (run today start (fileTokens file) noRows) before r mid
-  answers = subst (λ x. Answers count x before r mid) (held-run file table count h) a
+module _ (layout : ℕ) (file table : List ℕ) (count : ℕ) (h : HoldsToday layout file table count) (before mid : FourTables) (k : SameSizes before mid) (r : Parsed)
+    (a : Answers count (rowsRun count table) before r mid) (taken : ℕ) (first : taken ≡ firstRepeat nothing (todayRow (layoutRules layout) (fileTokens file))) (j : Judged)
+    (e : (x : Run) → Numbered x → Ran x count r → j ≡ judgedOf (then (decide (length file) (placed (tokensOf file)) taken x) (rowsFit (sizesOf (length table) mid)))) where
+  -- the run over the tokens
+  abbrev ran : Run
+  ran = run (layoutRules layout) start (todayRow (layoutRules layout) (fileTokens file)) noRows
 
-  judged-before : j ≡ judgedOf (then (grammarOf today (length file) (placed (tokensOf file))) (rowsFit (sizesOf (length table) before)))
-  judged-before = e ∙ ap (λ w. judgedOf (then (grammarOf today (length file) (placed (tokensOf file))) (rowsFit w))) (same-words (length table) before mid k)
+  answers : Answers count ran before r mid
+  answers = subst (λ x. Answers count x before r mid) (held-run layout file table count h) a
+
+  judged-before : j ≡ judgedOf (then (grammarOf (layoutRules layout) (length file) (placed (tokensOf file))) (rowsFit (sizesOf (length table) before)))
+  unfolding grammarOf
+  judged-before =
+      e ran (run-number (layoutRules layout) start (todayRow (layoutRules layout) (fileTokens file)) noRows) (answer-ran ran count before mid r answers)
+      ∙ λ i. judgedOf (then (decide (length file) (placed (tokensOf file)) (first i) ran) (rowsFit (same-words (length table) before mid k i)))
 
   pub outcome-refused : (j .refusal ≡ 0 → ⊥)
-      → then (grammarOf today (length file) (placed (tokensOf file))) (rowsFit (sizesOf (length table) before)) ≡ refused (j .refusal) (j .place)
+      → then (grammarOf (layoutRules layout) (length file) (placed (tokensOf file))) (rowsFit (sizesOf (length table) before)) ≡ refused (j .refusal) (j .place)
   outcome-refused f = judged-refused _ j judged-before f
 
   pub outcome-settled : j .refusal ≡ 0
-      → Settled (sizesOf (length table) before) (length file) (placed (tokensOf file)) (firstRepeat nothing (fileTokens file)) (run today start (fileTokens file) noRows)
+      → Settled (sizesOf (length table) before) (length file) (placed (tokensOf file)) (firstRepeat nothing (todayRow (layoutRules layout) (fileTokens file))) ran
   unfolding grammarOf
   outcome-settled z =
-      settled _ _ _ _ _ (run-number today start (fileTokens file) noRows) (sym (ap (λ g. g .refusal) judged-before) ∙ z)
+      settled _ _ _ _ _ (run-number (layoutRules layout) start (todayRow (layoutRules layout) (fileTokens file)) noRows) (sym (ap (λ g. g .refusal) judged-before) ∙ z)
 
-  pub rows-accepted : (rows : Rows) → run today start (fileTokens file) noRows ≡ good rows → Accepted count rows before r mid
+  pub rows-accepted : (rows : Rows) → ran ≡ good rows → Accepted count rows before r mid
   rows-accepted rows g = subst (λ x. Answers count x before r mid) g answers
 
 -- tables that a refusal has cleared
@@ -185,9 +182,9 @@ pub accepted-answer : (o : ReadOutcome) (ps : List Placed) (rows : Rows) (count 
 unfolding readAnswer
 accepted-answer o ps rows count before mid r e c a = rw (e, c, a .sets, a .names, a .packets, a .values)
 
-pub accepted-leaves : (o : ReadOutcome) (ps : List Placed) (rows : Rows) (table : List ℕ) (before after : FourTables) → o ≡ accepted (ps, rows)
-    → table ≡ holding tokenRow ps (length table) → Held rows before after
-    → Leaves o (sizesOf (length table) before) (tables table (after .sets) (after .names) (after .packets) (after .values))
+pub accepted-leaves : (o : ReadOutcome) (ps : List Placed) (rows : Rows) (n : ℕ) (table : List ℕ) (before after : FourTables) → o ≡ accepted (ps, rows)
+    → table ≡ holding tokenRow ps n → Held rows before after
+    → Leaves o (sizesOf n before) (tables table (after .sets) (after .names) (after .packets) (after .values))
 unfolding tablesOf
-accepted-leaves o ps rows table before after e t k =
+accepted-leaves o ps rows n table before after e t k =
     rw e (record { tokens = t; sets = k .sets; names = k .names; packets = k .packets; values = k .values })

@@ -8,17 +8,17 @@ use lib.ListN.{length}
 use Rattle.star_text.specs.Outcome.{refused, accepted}
 use Rattle.star_rows.specs.Widths.{tokenWidth, setWidth, nameWidth, packetWidth, valueWidth}
 use Rattle.star_text.specs.Bytes.{mostBytes}
-use Rattle.star_lex.specs.Rules.{Rules, atLevels, atLongest}
+use Rattle.star_lex.specs.Rules.{Rules, today, layoutRules, atLevels, atLongest}
 use Rattle.star_lex.specs.Tokens.{Token, Placed, Each}
 use Rattle.star_lex.specs.Split.{tokensBy, tokensOf}
 use Rattle.star_lex.specs.Fits.{fits}
 use Rattle.star_lex.specs.Demands.{noPair, windows, windowsToken}
-use Rattle.star_grammar.specs.Tree.{File, fileYield, FileBy, IsName, IsValue}
+use Rattle.star_grammar.specs.Tree.{File, fileYield, frameClose, FileBy, IsName, IsValue}
 use Rattle.star_grammar.specs.Tables.{Rows, rowsOf}
 use Rattle.star_grammar.specs.Reading.{ReadingBy, Reading}
 use Rattle.star_read.specs.Answer.{readAnswer, Tables, zeroTables, tablesOf}
 use Rattle.star_read.specs.declared.Answer.{Answer}
-use Rattle.star_read.specs.Read.{FileRows, ReadOutcome, Sizes, tokensOnly, readOf, readBy}
+use Rattle.star_read.specs.Read.{FileRows, ReadOutcome, Sizes, tokensOnly, readOf, readBy, readIn}
 
 -- rules by which every file that is begun can be completed: loops have a level, and names may be so long that a file within the size limit has not
 -- taken all of them
@@ -86,7 +86,7 @@ pub record BeginsShape (rules : Rules) (p : List Token) : Type 0 where
   pub tokens : List Placed
   pub splits : tokensBy rules file ≡ accepted tokens
   pub tree : File
-  pub yield : fileYield tree ≡ tokensOnly tokens
+  pub yield : fileYield (frameClose rules) tree ≡ tokensOnly tokens
   pub whole : FileBy rules tree
   pub rest : List Token
   pub starts : tokensOnly tokens ≡ p ++ rest
@@ -138,6 +138,13 @@ GlobalNumber = (rules : Rules) → Usable rules → (file : List ℕ) (words : S
     → (p : List Placed) (t : Placed) (q : List Placed) → ps ≡ p ++ (t ∷ q) → Begins rules (tokensOnly p)
     → (Begins rules (tokensOnly (p ++ (t ∷ []))) → ⊥) → t .token .kind ≡ 12 → (n ≡ 8) ⊎ (n ≡ 10)
 
+-- where `stop_` closes frames, a `save_` alone stands in no file, and the first is refused with 8 or 10
+abbrev pub SaveNumber : Type 0
+SaveNumber = (rules : Rules) → Usable rules → rules .stopCloses ≡ true → (file : List ℕ) (words : Sizes) (ps : List Placed) → Fair rules file words ps
+    → (n place : ℕ) → readBy rules file words ≡ refused n place
+    → (p : List Placed) (t : Placed) (q : List Placed) → ps ≡ p ++ (t ∷ q) → Begins rules (tokensOnly p) → t .token .kind ≡ 3
+    → (Begins rules (tokensOnly (p ++ (t ∷ []))) → ⊥) × ((n ≡ 8) ⊎ (n ≡ 10))
+
 -- refusal and place where a file has no reading: of the first token that, with those before it, begins no file, or of the file's end
 pub data Bad (rules : Rules) (file : List ℕ) (ps : List Placed) : (number place : ℕ) → Type 0 where
   token : (n : ℕ) (p : List Placed) (t : Placed) (q : List Placed) → ps ≡ p ++ (t ∷ q) → Begins rules (tokensOnly p)
@@ -183,21 +190,29 @@ pub data Numbered (size : ℕ) : (number place : ℕ) → Type 0 where
   token : (n place : ℕ) → 8 ≤ n → n ≤ 11 → place < size → Numbered size n place
   end : (n : ℕ) → (n ≡ 8) ⊎ (n ≡ 10) → Numbered size n size
 
--- a file within the size limit that splits into tokens which have a reading
-pub record HasReading (file : List ℕ) : Type 0 where
+-- a file within the size limit that by the rules splits into tokens which have a reading
+pub record HasReadingBy (rules : Rules) (file : List ℕ) : Type 0 where
   pub small : length file ≤ mostBytes
   pub tokens : List Placed
-  pub splits : tokensOf file ≡ accepted tokens
-  pub reading : Reading (tokensOnly tokens)
+  pub splits : tokensBy rules file ≡ accepted tokens
+  pub reading : ReadingBy rules (tokensOnly tokens)
 
--- demand 1, of reading: its answer is 0 and 0 only with a reading; else one of the numbers with its place, no rows, and every word 0
-pub data ReadAnswer (file : List ℕ) (words : Sizes) : Answer → Tables → Type 0 where
-  acceptance : (r : Answer) (t : Tables) → r .refusal ≡ 0 → r .place ≡ 0 → HasReading file → ReadAnswer file words r t
-  refusal : (n place : ℕ) → Numbered (length file) n place
-      → ReadAnswer file words (record { refusal = n; place = place; tokens = 0; sets = 0; names = 0; packets = 0; values = 0 }) (zeroTables words)
+-- by today's rules
+abbrev pub HasReading : (file : List ℕ) → Type 0
+HasReading file = HasReadingBy today file
+
+-- the answer and the tables of a refusal: no rows, and every word 0
+abbrev pub refusalAnswer : (n place : ℕ) → Answer
+refusalAnswer n place = record { refusal = n; place = place; tokens = 0; sets = 0; names = 0; packets = 0; values = 0 }
+
+-- demand 1, of reading in a layout: its answer is 0 and 0 only with a reading; else one of the numbers with its place, no rows, and every word 0; a number that is no layout's is 14
+pub data ReadAnswer (layout : ℕ) (file : List ℕ) (words : Sizes) : Answer → Tables → Type 0 where
+  acceptance : (r : Answer) (t : Tables) → layout ≤ 1 → r .refusal ≡ 0 → r .place ≡ 0 → HasReadingBy (layoutRules layout) file → ReadAnswer layout file words r t
+  refusal : (n place : ℕ) → layout ≤ 1 → Numbered (length file) n place → ReadAnswer layout file words (refusalAnswer n place) (zeroTables words)
+  no-layout : 1 < layout → ReadAnswer layout file words (refusalAnswer 14 0) (zeroTables words)
 
 abbrev pub ReadAnswers : Type 0
-ReadAnswers = (file : List ℕ) (words : Sizes) → ReadAnswer file words (readAnswer (readOf file words)) (tablesOf (readOf file words) words)
+ReadAnswers = (layout : ℕ) (file : List ℕ) (words : Sizes) → ReadAnswer layout file words (readAnswer (readIn layout file words)) (tablesOf (readIn layout file words) words)
 
 -- as Windows writes it, an accepted file without 13, 10 is accepted, within the size limit and with room: with the same rows of tables 2 to 5, and the
 -- same tokens but for the line ends within text fields

@@ -1,18 +1,19 @@
--- What reading a file gives: specification 8. For contracts, of `read` and of what reads first. What is accepted, with which rows, and where a file is
--- refused is said without a machine by specs/Demands.antt.
+-- What reading a file gives: specification 8, and in a layout 20. For contracts, of `read`, `read_layout` and of what reads first. What is accepted, with which rows, and where a file is
+-- refused is said without a machine by specs/Demands.antt; of `readIn`, that the layout is looked at first is believed.
 use mathlib.Core.Bool.{cond}
 use mathlib.Core.List.{List, [], _∷_, map}
 use Prim.Native.Nat.{ℕ, zero, suc}
-use lib.Dec.{ltb}
+use lib.Dec.{leb, ltb}
 use lib.ListN.{length}
 use Rattle.star_text.specs.Outcome.{Outcome, refused, accepted, then, need}
 use Rattle.star_rows.specs.Rows.{hasRoom}
 use Rattle.star_rows.specs.Widths.{setWidth, nameWidth, packetWidth, valueWidth}
-use Rattle.star_lex.specs.Rules.{Rules, today}
+use Rattle.star_lex.specs.Rules.{Rules, today, layoutRules}
 use Rattle.star_lex.specs.Tokens.{Token, Placed}
 use Rattle.star_lex.specs.Answer.{tokensInBy}
 use Rattle.star_grammar.specs.Tables.{Rows, noRows}
 use Rattle.star_grammar.specs.Machine.{Run, bad, good, run, start}
+use Rattle.star_grammar.specs.Layout.{todayRow}
 use Rattle.star_unique.specs.Repeat.{nothing, firstRepeat}
 
 -- what is accepted: the tokens, and the rows of tables 2 to 5
@@ -44,8 +45,9 @@ unfoldable pub decide : (size : ℕ) → List Placed → (taken : ℕ) → Run �
 decide size ps taken (bad n i) = cond (ltb taken i) (refused 9 (tokenPlace size ps taken)) (refused n (tokenPlace size ps i))
 decide size ps taken (good rows) = cond (ltb taken (length ps)) (refused 9 (tokenPlace size ps taken)) (accepted (ps, rows))
 
+-- by the tokens as today's layout has them
 unfoldable pub grammarOf : (rules : Rules) → (size : ℕ) → List Placed → ReadOutcome
-grammarOf rules size ps = decide size ps (firstRepeat nothing (tokensOnly ps)) (run rules start (tokensOnly ps) noRows)
+grammarOf rules size ps = decide size ps (firstRepeat nothing (todayRow rules (tokensOnly ps))) (run rules start (todayRow rules (tokensOnly ps)) noRows)
 
 -- 7 for tables 2 to 5 by their numbers of rows, the lowest table first
 unfoldable pub roomFor : {A : Type 0} → (sets names packets values : ℕ) → Sizes → Outcome A → Outcome A
@@ -61,6 +63,10 @@ rowsFit words (ps, rows) =
 -- the refusals of the tokens, then those of the grammar, then those of the room
 unfoldable pub readBy : (rules : Rules) → List ℕ → Sizes → ReadOutcome
 readBy rules file words = then (tokensInBy rules file (words .tokens)) (λ ps. then (grammarOf rules (length file) ps) (rowsFit words))
+
+-- in a layout, 0 or 1: any other number is 14, before all else
+unfoldable pub readIn : (layout : ℕ) → List ℕ → Sizes → ReadOutcome
+readIn layout file words = need (leb layout 1) 14 0 (readBy (layoutRules layout) file words)
 
 -- by today's rules
 abbrev pub readOf : List ℕ → Sizes → ReadOutcome

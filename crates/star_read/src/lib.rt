@@ -2,16 +2,16 @@
 ghost use mathlib.Core.Path.{_≡_};
 ghost use Prim.Native.Nat.{ℕ};
 ghost use lib.ListN.{length};
-ghost use Rattle.star_lex.specs.Rules.{today};
+ghost use Rattle.star_lex.specs.Rules.{layoutRules};
 ghost use Rattle.star_lex.specs.Split.{placed, tokensOf};
-ghost use Rattle.star_grammar.specs.Tables.{noRows};
-ghost use Rattle.star_grammar.specs.Machine.{run, start};
-ghost use Rattle.star_lex.specs.Holds.{Holds, fileTokens};
+ghost use Rattle.star_lex.specs.Holds.{fileTokens};
+ghost use Rattle.star_grammar.specs.Machine.{Run};
+ghost use Rattle.star_grammar.specs.Layout.{todayRow};
 ghost use Rattle.star_unique.specs.Repeat.{nothing, firstRepeat};
 ghost use Rattle.star_text.specs.Outcome.{refused, accepted, then};
-ghost use Rattle.star_read.specs.Read.{tokenPlace, roomFor, rowsFit, grammarOf};
-ghost use Rattle.star_read.specs.Answer.{tables, sizes, words, Leaves, Gives, Reads};
-ghost use Rattle.star_read.specs.Judged.{judgedOf, Ran, ClearedBehind};
+ghost use Rattle.star_read.specs.Read.{tokenPlace, decide, roomFor, rowsFit, grammarOf, readBy};
+ghost use Rattle.star_read.specs.Answer.{tables, sizes, words, Leaves, Gives, Reads, ReadsIn};
+ghost use Rattle.star_read.specs.Judged.{Places, HoldsToday, fromToday, judgedOf, Ran, Numbered, ClearedBehind};
 ghost use Rattle.star_parse.specs.Parsed.{fourTables as four};
 use star_parse::Parsed;
 
@@ -35,7 +35,7 @@ pub struct Judged {
 
 // The first byte of the token that has so many before it, or the file's length.
 fn place_of(file: &[u8], tokens: &[u32], count: usize, before: usize) -> u32
-    requires { ⌜ Holds (now file) (now tokens) count ⌝ }
+    requires { ⌜ Places (now file) (now tokens) count ⌝ }
     ensures { λ r. ⌜ r ≡ tokenPlace (length (now (file .entry))) (placed (tokensOf (now (file .entry)))) before ⌝ }
 {
     if before < count {
@@ -91,11 +91,10 @@ fn judge(
     packets: usize,
     values: usize,
 ) -> Judged
-    requires { ⌜ Holds (now file) (now tokens) count ⌝ }
-    requires { ⌜ taken ≡ firstRepeat nothing (fileTokens (now file)) ⌝ }
-    requires { ⌜ Ran (run today start (fileTokens (now file)) noRows) count rows ⌝ }
-    ensures { λ r. ⌜ r ≡ judgedOf (then (grammarOf today (length (now (file .entry))) (placed (tokensOf (now (file .entry)))))
-        (rowsFit (words (length (now (tokens .entry))) sets names packets values))) ⌝ }
+    requires { ⌜ Places (now file) (now tokens) count ⌝ }
+    ensures { λ r. ⌜ ((x : Run) → Numbered x → Ran x count rows
+        → r ≡ judgedOf (then (decide (length (now (file .entry))) (placed (tokensOf (now (file .entry)))) taken x)
+        (rowsFit (words (length (now (tokens .entry))) sets names packets values)))) ⌝ }
 {
     if taken < rows.tokens {
         return Judged {
@@ -181,9 +180,19 @@ fn clear_behind(
     );
 }
 
-// Reads the rows of a file whose tokens table 1 holds; `taken` of them stand before the first that is taken.
+// Gives so many rows with the kinds of today's layout those of a layout again.
+fn from_today(layout: u32, tokens: &mut [u32], count: usize)
+    ensures { λ _. ⌜ now (tokens .exit) ≡ fromToday layout count (now (tokens .entry)) ⌝ }
+{
+    if layout == 1 {
+        star_frames::open_frames(tokens, count);
+    }
+}
+
+// Reads the rows of a file whose tokens table 1 holds, with the kinds of today's layout; `taken` of them stand before the first that is taken.
 fn read_tables(
     file: &[u8],
+    layout: u32,
     tokens: &mut [u32],
     sets: &mut [u32],
     names: &mut [u32],
@@ -192,9 +201,9 @@ fn read_tables(
     count: u32,
     taken: usize,
 ) -> Answer
-    requires { ⌜ Holds (now file) (now tokens) count ⌝ }
-    requires { ⌜ taken ≡ firstRepeat nothing (fileTokens (now file)) ⌝ }
-    ensures { λ r. ⌜ Gives (then (grammarOf today (length (now (file .entry))) (placed (tokensOf (now (file .entry)))))
+    requires { ⌜ HoldsToday layout (now file) (now tokens) count ⌝ }
+    requires { ⌜ taken ≡ firstRepeat nothing (todayRow (layoutRules layout) (fileTokens (now file))) ⌝ }
+    ensures { λ r. ⌜ Gives (then (grammarOf (layoutRules layout) (length (now (file .entry))) (placed (tokensOf (now (file .entry)))))
         (rowsFit (sizes (tables (now (tokens .entry)) (now (sets .entry)) (now (names .entry)) (now (packets .entry)) (now (values .entry))))))
         (tables (now (tokens .entry)) (now (sets .entry)) (now (names .entry)) (now (packets .entry)) (now (values .entry)))
         (tables (now (tokens .exit)) (now (sets .exit)) (now (names .exit)) (now (packets .exit)) (now (values .exit))) r ⌝ }
@@ -224,6 +233,7 @@ fn read_tables(
         );
     }
     clear_behind(sets, names, packets, values, rows);
+    from_today(layout, tokens, n);
     Answer {
         refusal: 0,
         place: 0,
@@ -235,20 +245,22 @@ fn read_tables(
     }
 }
 
-// Reads a file into the five tables. On a refusal the counts and every word of every table are 0.
-pub fn read(
+// Reads a file of a layout into the five tables; layout 1 is that of 1991, and any other number is today's.
+fn read_as(
     file: &[u8],
+    layout: u32,
     tokens: &mut [u32],
     sets: &mut [u32],
     names: &mut [u32],
     packets: &mut [u32],
     values: &mut [u32],
 ) -> Answer
-    ensures { λ r. ⌜ Reads (now (file .entry))
+    ensures { λ r. ⌜ Gives (readBy (layoutRules layout) (now (file .entry))
+        (sizes (tables (now (tokens .entry)) (now (sets .entry)) (now (names .entry)) (now (packets .entry)) (now (values .entry)))))
         (tables (now (tokens .entry)) (now (sets .entry)) (now (names .entry)) (now (packets .entry)) (now (values .entry)))
         (tables (now (tokens .exit)) (now (sets .exit)) (now (names .exit)) (now (packets .exit)) (now (values .exit))) r ⌝ }
 {
-    let found = star_unique::read_tokens(file, tokens);
+    let found = star_unique::read_tokens(file, layout, tokens);
     if found.refusal != 0 {
         return refuse(
             tokens,
@@ -262,6 +274,7 @@ pub fn read(
     }
     read_tables(
         file,
+        layout,
         tokens,
         sets,
         names,
@@ -270,4 +283,47 @@ pub fn read(
         found.count,
         found.taken,
     )
+}
+
+// Reads a file into the five tables, by today's layout. On a refusal the counts and every word of every table are 0.
+pub fn read(
+    file: &[u8],
+    tokens: &mut [u32],
+    sets: &mut [u32],
+    names: &mut [u32],
+    packets: &mut [u32],
+    values: &mut [u32],
+) -> Answer
+    ensures { λ r. ⌜ Reads (now (file .entry))
+        (tables (now (tokens .entry)) (now (sets .entry)) (now (names .entry)) (now (packets .entry)) (now (values .entry)))
+        (tables (now (tokens .exit)) (now (sets .exit)) (now (names .exit)) (now (packets .exit)) (now (values .exit))) r ⌝ }
+{
+    read_as(file, 0, tokens, sets, names, packets, values)
+}
+
+// The number of the last layout.
+const LAST_LAYOUT: u32 = 1;
+
+// The refusal of a number that is no layout's.
+const NO_LAYOUT: u32 = 14;
+
+// Reads a file into the five tables: layout 0 is today's, 1 that of 1991, and any other number is refused before all else. On a refusal the counts and
+// every word of every table are 0.
+pub fn read_layout(
+    file: &[u8],
+    layout: u32,
+    tokens: &mut [u32],
+    sets: &mut [u32],
+    names: &mut [u32],
+    packets: &mut [u32],
+    values: &mut [u32],
+) -> Answer
+    ensures { λ r. ⌜ ReadsIn layout (now (file .entry))
+        (tables (now (tokens .entry)) (now (sets .entry)) (now (names .entry)) (now (packets .entry)) (now (values .entry)))
+        (tables (now (tokens .exit)) (now (sets .exit)) (now (names .exit)) (now (packets .exit)) (now (values .exit))) r ⌝ }
+{
+    if layout > LAST_LAYOUT {
+        return refuse(tokens, sets, names, packets, values, NO_LAYOUT, 0);
+    }
+    read_as(file, layout, tokens, sets, names, packets, values)
 }

@@ -47,6 +47,6 @@ fn compare(file: &[u8], kept: &[u32], form: &[u8], back: &[u32]) {
 // Reads a plain form and compares with its file, whose reading is kept.
 pub fn read_back(file: &[u8], kept: &[u32], form: &[u8]) {
     let mut back = kept::room();
-    kept::read(form, &mut back);
+    kept::read(form, 0, &mut back);
     compare(file, kept, form, &back);
 }

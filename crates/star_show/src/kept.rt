@@ -111,15 +111,16 @@ pub fn print_slots(kept: &[u32]) {
     print::rows(lent(kept, 6), 1024, 1024);
 }
 
-// Reads a file into tables of as many words as are lent, none of them 0 before, and keeps what is left.
-pub(crate) fn read(file: &[u8], kept: &mut [u32]) -> Answer {
+// Reads a file of a layout into tables of as many words as are lent, none of them 0 before, and keeps what is left.
+pub(crate) fn read(file: &[u8], layout: u32, kept: &mut [u32]) -> Answer {
     let mut tokens = [FILLED; 1024];
     let mut sets = [FILLED; 1024];
     let mut names = [FILLED; 1024];
     let mut packets = [FILLED; 1024];
     let mut values = [FILLED; 1024];
-    let answer = star_read::read(
+    let answer = star_read::read_layout(
         file,
+        layout,
         lend(&mut tokens, kept, 1),
         lend(&mut sets, kept, 2),
         lend(&mut names, kept, 3),
@@ -138,9 +139,9 @@ pub(crate) fn read(file: &[u8], kept: &mut [u32]) -> Answer {
     answer
 }
 
-// Reads a file, prints what came out and answers its refusal.
-pub fn show(file: &[u8], kept: &mut [u32]) -> u32 {
-    let answer = read(file, kept);
+// Reads a file of a layout, prints what came out and answers its refusal.
+pub fn show(file: &[u8], layout: u32, kept: &mut [u32]) -> u32 {
+    let answer = read(file, layout, kept);
     print::two(answer.refusal, answer.place);
     print_kept(answer.refusal, kept);
     answer.refusal

@@ -5,9 +5,11 @@ pub mod Comparing
 pub mod Distinct
 pub mod First
 pub mod Fresh
+pub mod KindWords
 pub mod Marking
 pub mod Marks
 pub mod Names
 pub mod Repeats
 pub mod Scopes
 pub mod Unmarking
+pub mod Today

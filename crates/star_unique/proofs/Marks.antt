@@ -1,5 +1,5 @@
 -- Table 1 while it is marked: marking a row changes its kind word alone, and a marked word has the sort and the link of its row.
-use mathlib.Core.Path.{_≡_, sym, _∙_, ap, subst}
+use mathlib.Core.Path.{_≡_, refl, sym, _∙_, ap, subst}
 use mathlib.Core.Bool.{Bool, true, false, cond, _&&_}
 use mathlib.Core.List.{List}
 use Prim.Native.Nat.{ℕ, suc, _+_, _-_, _*_, _/_, _%_, _≤_, _<_}
@@ -7,16 +7,17 @@ use native.Mathlib.Nat.{mod-lt}
 use native.Mathlib.Numerals.{add-one}
 use native.Mathlib.Omega.{arith}
 use lib.Dec.{eqb}
-use borrow.Author.Tests.{ne-eqb}
+use borrow.Author.Tests.{eqb-true, ne-eqb}
 use lib.ListN.{length, getD, take, drop, drop-of-length-le}
 use lib.Seq.{drop-cons}
 use Rattle.star_text.specs.Bytes.{mostBytes}
 use Rattle.star_lex.specs.Tokens.{Token}
 use Rattle.star_text.specs.Names.{same}
 use Rattle.star_lex.specs.Holds.{Holds, tokenAt}
-use Rattle.star_unique.specs.Chain.{heldTable, nameSort, sortAt, scopeAt, mix, bucketOf, signOf, bucketAt, latest, markAt, earlier}
+use Rattle.star_unique.specs.Chain.{heldTable, nameSort, sortAt, scopeAt, mix, bucketOf, signOf, bucketAt, latest, markAt, earlier, unmarkedKind, tokenBy}
 use Rattle.star_unique.specs.Marked.{Spans, Marked}
 use Rattle.star_lex.proofs.Held.{Row, held-row}
+use Rattle.star_unique.proofs.KindWords.{unmark-small}
 use Rattle.star_unique.proofs.Chain.{latest-within, latest-again, latest-in, bucket-below, sign-below, sign-sort, sign-tells, bucket-sort, earlier-floor, earlier-other, earlier-here, earlier-last}
 
 module _ (h : ℕ) (x : List ℕ) (i : ℕ) where
@@ -117,44 +118,65 @@ module _ (at : ℕ → Token) (n : ℕ) where
     pub mark-link : markAt at n / 4096 ≡ latest (bucketAt at) (bucketAt at n) n
     mark-link = rw mark-is (omega (arith, sign-below (sortAt at n) (at n .content) sort-below))
 
+  -- it stands for its kind
+  module _ (small : at n .kind ≤ 12) where
+    low : (sort kind : ℕ) → sortAt at n ≡ sort → (sort ≡ 0 → ⊥) → cond (eqb sort 13) 6 sort ≡ kind → unmarkedKind (markAt at n) ≡ kind
+    unfolding unmarkedKind
+    low sort kind e some q = rw (mark-sort (λ z. some (sym e ∙ z)), e) q
+
+    pub mark-kind : unmarkedKind (markAt at n) ≡ at n .kind
+    unfolding markAt sortAt nameSort
+    mark-kind = go (scopeAt at n .inside) refl (eqb (at n .kind) 6) refl (eqb (at n .kind) 1) refl (eqb (at n .kind) 2) refl
+      where
+        go : (i : Bool) → scopeAt at n .inside ≡ i → (p : Bool) → eqb (at n .kind) 6 ≡ p → (q : Bool) → eqb (at n .kind) 1 ≡ q → (r : Bool)
+            → eqb (at n .kind) 2 ≡ r → unmarkedKind (markAt at n) ≡ at n .kind
+        go true e true d q f r g = low 13 (at n .kind) (rw (d, e)) (λ z. absurd (omega arith)) (sym (eqb-true _ _ d))
+        go false e true d q f r g = low 6 (at n .kind) (rw (d, e)) (λ z. absurd (omega arith)) (sym (eqb-true _ _ d))
+        go i e false d true f r g = low 1 (at n .kind) (rw (d, f)) (λ z. absurd (omega arith)) (sym (eqb-true _ _ f))
+        go i e false d false f true g = low 2 (at n .kind) (rw (d, f, g)) (λ z. absurd (omega arith)) (sym (eqb-true _ _ g))
+        go i e false d false f false g = rw (d, f, g) (unmark-small (at n .kind) small)
+
 -- a row of a bucket, as the table has it
-module _ (file words : List ℕ) (count n sign : ℕ) (x : List ℕ) (floor row : ℕ) (k : Marked file words count 0 n) (some : sign % 16 ≡ 0 → ⊥)
-    (es : sign ≡ signOf (sign % 16) x) (f : Follows (tokenAt file) (sign % 16) x floor n row) (h : floor < row) where
+module _ (file : List ℕ) (kinds : ℕ → ℕ) (words : List ℕ) (count n sign : ℕ) (x : List ℕ) (floor row : ℕ) (k : Marked file kinds words count n)
+    (some : sign % 16 ≡ 0 → ⊥) (es : sign ≡ signOf (sign % 16) x) (f : Follows (tokenBy file kinds) (sign % 16) x floor n row) (h : floor < row) where
+  abbrev at : ℕ → Token
+  at = tokenBy file kinds
+
   back : row ≡ suc (row - 1)
   back = omega arith
 
-  at-row : Follows (tokenAt file) (sign % 16) x floor n (suc (row - 1))
-  at-row = subst (λ r. Follows (tokenAt file) (sign % 16) x floor n r) back f
+  at-row : Follows at (sign % 16) x floor n (suc (row - 1))
+  at-row = subst (λ r. Follows at (sign % 16) x floor n r) back f
 
-  word-is : getD words ((row - 1) * 3) 0 ≡ markAt (tokenAt file) (row - 1)
-  word-is = k .marked (row - 1) (omega arith) (omega (arith, f .within))
+  word-is : getD words ((row - 1) * 3) 0 ≡ markAt at (row - 1)
+  word-is = k .marked (row - 1) (omega (arith, f .within))
 
-  named : sortAt (tokenAt file) (row - 1) ≡ 0 → ⊥
-  named = follow-sort (tokenAt file) (sign % 16) x floor n some (row - 1) at-row
+  named : sortAt at (row - 1) ≡ 0 → ⊥
+  named = follow-sort at (sign % 16) x floor n some (row - 1) at-row
 
-  equal-is : (eqb (getD words ((row - 1) * 3) 0 % 4096) sign && same x (tokenAt file (row - 1) .content))
-      ≡ (eqb (sortAt (tokenAt file) (row - 1)) (sign % 16) && same x (tokenAt file (row - 1) .content))
+  equal-is : (eqb (getD words ((row - 1) * 3) 0 % 4096) sign && same x (at (row - 1) .content))
+      ≡ (eqb (sortAt at (row - 1)) (sign % 16) && same x (at (row - 1) .content))
   equal-is =
-      ap (λ w. eqb (w % 4096) sign && same x (tokenAt file (row - 1) .content)) word-is
-      ∙ ap (λ w. eqb w sign && same x (tokenAt file (row - 1) .content)) (mark-sign (tokenAt file) (row - 1) named)
-      ∙ ap (λ w. eqb (signOf (sortAt (tokenAt file) (row - 1)) (tokenAt file (row - 1) .content)) w && same x (tokenAt file (row - 1) .content)) es
-      ∙ sign-tells (sortAt (tokenAt file) (row - 1)) (sign % 16) x (tokenAt file (row - 1) .content) (sort-below (tokenAt file) (row - 1)) (mod-lt sign (omega arith))
+      ap (λ w. eqb (w % 4096) sign && same x (at (row - 1) .content)) word-is
+      ∙ ap (λ w. eqb w sign && same x (at (row - 1) .content)) (mark-sign at (row - 1) named)
+      ∙ ap (λ w. eqb (signOf (sortAt at (row - 1)) (at (row - 1) .content)) w && same x (at (row - 1) .content)) es
+      ∙ sign-tells (sortAt at (row - 1)) (sign % 16) x (at (row - 1) .content) (sort-below at (row - 1)) (mod-lt sign (omega arith))
 
-  link-is : getD words ((row - 1) * 3) 0 / 4096 ≡ latest (bucketAt (tokenAt file)) (bucketAt (tokenAt file) (row - 1)) (row - 1)
-  link-is = rw word-is (mark-link (tokenAt file) (row - 1) named)
+  link-is : getD words ((row - 1) * 3) 0 / 4096 ≡ latest (bucketAt at) (bucketAt at (row - 1)) (row - 1)
+  link-is = rw word-is (mark-link at (row - 1) named)
 
-  pub turn-hit : (eqb (getD words ((row - 1) * 3) 0 % 4096) sign && same x (tokenAt file (row - 1) .content)) ≡ true
-      → true ≡ earlier (tokenAt file) (sign % 16) x floor n
-  turn-hit e = follow-hit (tokenAt file) (sign % 16) x floor n some (row - 1) at-row (omega arith) (sym equal-is ∙ e)
+  pub turn-hit : (eqb (getD words ((row - 1) * 3) 0 % 4096) sign && same x (at (row - 1) .content)) ≡ true
+      → true ≡ earlier at (sign % 16) x floor n
+  turn-hit e = follow-hit at (sign % 16) x floor n some (row - 1) at-row (omega arith) (sym equal-is ∙ e)
 
-  pub turn-miss : (eqb (getD words ((row - 1) * 3) 0 % 4096) sign && same x (tokenAt file (row - 1) .content)) ≡ false
-      → Follows (tokenAt file) (sign % 16) x floor n (getD words ((row - 1) * 3) 0 / 4096)
+  pub turn-miss : (eqb (getD words ((row - 1) * 3) 0 % 4096) sign && same x (at (row - 1) .content)) ≡ false
+      → Follows at (sign % 16) x floor n (getD words ((row - 1) * 3) 0 / 4096)
   turn-miss e =
-      subst (λ r. Follows (tokenAt file) (sign % 16) x floor n r) (sym link-is)
-      (follow-miss (tokenAt file) (sign % 16) x floor n some (row - 1) at-row (sym equal-is ∙ e))
+      subst (λ r. Follows at (sign % 16) x floor n r) (sym link-is)
+      (follow-miss at (sign % 16) x floor n some (row - 1) at-row (sym equal-is ∙ e))
 
   pub turn-less : getD words ((row - 1) * 3) 0 / 4096 < row
-  turn-less = rw link-is (omega (arith, latest-within (bucketAt (tokenAt file)) (bucketAt (tokenAt file) (row - 1)) (row - 1)))
+  turn-less = rw link-is (omega (arith, latest-within (bucketAt at) (bucketAt at (row - 1)) (row - 1)))
 
   pub turn-span : n ≤ count → Span file words (row - 1)
   turn-span below = spans-at file words count (k .spans) (row - 1) (omega (arith, f .within))

@@ -146,7 +146,7 @@ end-free s = refl
 
 module _ (rules : Rules) (bs : List (List ℕ)) where
   member-takes : (m : Member) → MemberBy rules m → (fs ns : List (List ℕ))
-      → takesAll (inBlock bs fs ns) (memberYield m) ≡ inBlock bs (fs ++ frameCodes m) (ns ++ ownNames m)
+      → takesAll (inBlock bs fs ns) (memberYield frameEnd m) ≡ inBlock bs (fs ++ frameCodes m) (ns ++ ownNames m)
   unfolding memberYield frameCodes ownNames frameYield
   member-takes (own e) h fs ns = rw append-nil (block-takes bs fs (naming-entry rules e h) ns)
   member-takes (framed f) h fs ns =
@@ -159,7 +159,7 @@ module _ (rules : Rules) (bs : List (List ℕ)) where
       ∙ ap (inBlock bs gs) (sym (append-nil ns))
 
   member-clean : (m : Member) → MemberBy rules m → (fs ns : List (List ℕ))
-      → (Distinct fs × Distinct ns × Clean (inBlock bs fs ns) (memberYield m))
+      → (Distinct fs × Distinct ns × Clean (inBlock bs fs ns) (memberYield frameEnd m))
       ↔ (Distinct (fs ++ frameCodes m) × Distinct (ns ++ ownNames m) × FrameDistinct m)
   unfolding memberYield frameCodes ownNames frameYield FrameDistinct
   member-clean (own e) h fs ns =
@@ -178,12 +178,12 @@ module _ (rules : Rules) (bs : List (List ℕ)) where
       )
 
   members-takes : (ms : List Member) → Each (MemberBy rules) ms → (fs ns : List (List ℕ))
-      → takesAll (inBlock bs fs ns) (flatMap memberYield ms) ≡ inBlock bs (fs ++ flatMap frameCodes ms) (ns ++ flatMap ownNames ms)
+      → takesAll (inBlock bs fs ns) (flatMap (memberYield frameEnd) ms) ≡ inBlock bs (fs ++ flatMap frameCodes ms) (ns ++ flatMap ownNames ms)
   unfolding flatMap
   members-takes [] h fs ns = rw (append-nil fs, append-nil ns)
   members-takes (m ∷ ms) h fs ns =
       rw (
-        takes-append (inBlock bs fs ns) (memberYield m) (flatMap memberYield ms),
+        takes-append (inBlock bs fs ns) (memberYield frameEnd m) (flatMap (memberYield frameEnd) ms),
         member-takes m (h .0) fs ns,
         ← (append-assoc fs (frameCodes m) (flatMap frameCodes ms)),
         ← (append-assoc ns (ownNames m) (flatMap ownNames ms)),
@@ -191,18 +191,18 @@ module _ (rules : Rules) (bs : List (List ℕ)) where
       (members-takes ms (h .1) (fs ++ frameCodes m) (ns ++ ownNames m))
 
   members-clean : (ms : List Member) → Each (MemberBy rules) ms → (fs ns : List (List ℕ))
-      → (Distinct fs × Distinct ns × Clean (inBlock bs fs ns) (flatMap memberYield ms))
+      → (Distinct fs × Distinct ns × Clean (inBlock bs fs ns) (flatMap (memberYield frameEnd) ms))
       ↔ (Distinct (fs ++ flatMap frameCodes ms) × Distinct (ns ++ flatMap ownNames ms) × Each FrameDistinct ms)
   unfolding flatMap
   members-clean [] h fs ns = rw (append-nil fs, append-nil ns) (λ c. c, λ c. c)
   members-clean (m ∷ ms) h fs ns =
       let gs : List (List ℕ) = fs ++ frameCodes m in
       let ws : List (List ℕ) = ns ++ ownNames m in
-      let ts : List Token = flatMap memberYield ms in
-      let k : (Distinct fs × Distinct ns × Clean (inBlock bs fs ns) (memberYield m)) ↔ (Distinct gs × Distinct ws × FrameDistinct m)
+      let ts : List Token = flatMap (memberYield frameEnd) ms in
+      let k : (Distinct fs × Distinct ns × Clean (inBlock bs fs ns) (memberYield frameEnd m)) ↔ (Distinct gs × Distinct ws × FrameDistinct m)
       = member-clean m (h .0) fs ns in
-      let a : Clean (inBlock bs fs ns) (memberYield m ++ ts) ↔ (Clean (inBlock bs fs ns) (memberYield m) × Clean (inBlock bs gs ws) ts)
-      = rw (← (member-takes m (h .0) fs ns)) (clean-append (inBlock bs fs ns) (memberYield m) ts) in
+      let a : Clean (inBlock bs fs ns) (memberYield frameEnd m ++ ts) ↔ (Clean (inBlock bs fs ns) (memberYield frameEnd m) × Clean (inBlock bs gs ws) ts)
+      = rw (← (member-takes m (h .0) fs ns)) (clean-append (inBlock bs fs ns) (memberYield frameEnd m) ts) in
       let r : (Distinct gs × Distinct ws × Clean (inBlock bs gs ws) ts) ↔ (Distinct (gs ++ flatMap frameCodes ms) × Distinct (ws ++ flatMap ownNames ms) × Each FrameDistinct ms)
       = members-clean ms (h .1) gs ws in
       rw (← (append-assoc fs (frameCodes m) (flatMap frameCodes ms)), ← (append-assoc ns (ownNames m) (flatMap ownNames ms))) (
@@ -212,7 +212,7 @@ module _ (rules : Rules) (bs : List (List ℕ)) where
             (e .0, e .1, (d .2, e .2)),
         λ c.
             let d : Distinct gs × Distinct ws × Clean (inBlock bs gs ws) ts = r .1 (c .0, c .1, c .2 .1) in
-            let e : Distinct fs × Distinct ns × Clean (inBlock bs fs ns) (memberYield m) = k .1 (d .0, d .1, c .2 .0) in
+            let e : Distinct fs × Distinct ns × Clean (inBlock bs fs ns) (memberYield frameEnd m) = k .1 (d .0, d .1, c .2 .0) in
             (e .0, e .1, a .1 (e .2, d .2)),
       )
 
@@ -230,18 +230,18 @@ heading-taken s b (IsHeading.global-block e) = rw (e, append-nil) (λ d. d .0, �
 
 module _ (rules : Rules) where
   -- a block leaves its code
-  block-code : (b : Block) → BlockBy rules b → (s : Taken) → takesAll s (blockYield b) .blocks ≡ s .blocks ++ blockCode b
+  block-code : (b : Block) → BlockBy rules b → (s : Taken) → takesAll s (blockYield frameEnd b) .blocks ≡ s .blocks ++ blockCode b
   unfolding blockYield
   block-code b h s =
-      ap (λ r. takesAll r (flatMap memberYield (b .members)) .blocks) (heading-takes s b (h .heading))
+      ap (λ r. takesAll r (flatMap (memberYield frameEnd) (b .members)) .blocks) (heading-takes s b (h .heading))
       ∙ ap (λ r. r .blocks) (members-takes rules (s .blocks ++ blockCode b) (b .members) (h .members) [] [])
 
   block-distinct : (b : Block) → BlockBy rules b → (s : Taken)
-      → (Distinct (s .blocks) × Clean s (blockYield b)) ↔ (Distinct (s .blocks ++ blockCode b) × BlockDistinct b)
+      → (Distinct (s .blocks) × Clean s (blockYield frameEnd b)) ↔ (Distinct (s .blocks ++ blockCode b) × BlockDistinct b)
   unfolding blockYield
   block-distinct b h s =
       let bs : List (List ℕ) = s .blocks ++ blockCode b in
-      let ms : List Token = flatMap memberYield (b .members) in
+      let ms : List Token = flatMap (memberYield frameEnd) (b .members) in
       let d : (Distinct (s .blocks) × (isTaken s (b .heading) ≡ false)) ↔ Distinct bs = heading-taken s b (h .heading) in
       let k : (Unit {0} × Unit {0} × Clean (inBlock bs [] []) ms) ↔ (Distinct (flatMap frameCodes (b .members)) × Distinct (flatMap ownNames (b .members)) × Each FrameDistinct (b .members))
       = members-clean rules bs (b .members) (h .members) [] [] in
@@ -251,16 +251,16 @@ module _ (rules : Rules) where
       )
 
   file-distinct : (f : File) → FileBy rules f → (s : Taken)
-      → (Distinct (s .blocks) × Clean s (fileYield f)) ↔ (Distinct (s .blocks ++ flatMap blockCode f) × Each BlockDistinct f)
+      → (Distinct (s .blocks) × Clean s (fileYield frameEnd f)) ↔ (Distinct (s .blocks ++ flatMap blockCode f) × Each BlockDistinct f)
   unfolding flatMap
   file-distinct [] h s = rw append-nil (λ c. c, λ c. c)
   file-distinct (b ∷ f) h s =
       let bs : List (List ℕ) = s .blocks ++ blockCode b in
       let codes : List (List ℕ) = flatMap blockCode f in
-      let u : Taken = takesAll s (blockYield b) in
-      let k : (Distinct (s .blocks) × Clean s (blockYield b)) ↔ (Distinct bs × BlockDistinct b) = block-distinct b (h .0) s in
-      let a : Clean s (blockYield b ++ fileYield f) ↔ (Clean s (blockYield b) × Clean u (fileYield f)) = clean-append s (blockYield b) (fileYield f) in
-      let r : (Distinct bs × Clean u (fileYield f)) ↔ (Distinct (bs ++ codes) × Each BlockDistinct f)
+      let u : Taken = takesAll s (blockYield frameEnd b) in
+      let k : (Distinct (s .blocks) × Clean s (blockYield frameEnd b)) ↔ (Distinct bs × BlockDistinct b) = block-distinct b (h .0) s in
+      let a : Clean s (blockYield frameEnd b ++ fileYield frameEnd f) ↔ (Clean s (blockYield frameEnd b) × Clean u (fileYield frameEnd f)) = clean-append s (blockYield frameEnd b) (fileYield frameEnd f) in
+      let r : (Distinct bs × Clean u (fileYield frameEnd f)) ↔ (Distinct (bs ++ codes) × Each BlockDistinct f)
       = rw (← (block-code b (h .0) s)) (file-distinct f (h .1) u) in
       rw (← (append-assoc (s .blocks) (blockCode b) codes)) (
         λ c.
@@ -268,18 +268,18 @@ module _ (rules : Rules) where
             let g : Distinct (bs ++ codes) × Each BlockDistinct f = r .0 (e .0, a .0 (c .1) .1) in
             (g .0, (e .1, g .1)),
         λ c.
-            let g : Distinct bs × Clean u (fileYield f) = r .1 (c .0, c .1 .1) in
-            let e : Distinct (s .blocks) × Clean s (blockYield b) = k .1 (g .0, c .1 .0) in
+            let g : Distinct bs × Clean u (fileYield frameEnd f) = r .1 (c .0, c .1 .1) in
+            let e : Distinct (s .blocks) × Clean s (blockYield frameEnd b) = k .1 (g .0, c .1 .0) in
             (e .0, a .1 (e .1, g .1)),
       )
 
   -- a whole tree is distinct exactly when its tokens repeat nothing
-  pub repeat-distinct : (f : File) → FileBy rules f → FileDistinct f ↔ (firstRepeat nothing (fileYield f) ≡ length (fileYield f))
+  pub repeat-distinct : (f : File) → FileBy rules f → FileDistinct f ↔ (firstRepeat nothing (fileYield frameEnd f) ≡ length (fileYield frameEnd f))
   unfolding nothing
   repeat-distinct f h =
-      let k : (Unit {0} × Clean nothing (fileYield f)) ↔ (Distinct (flatMap blockCode f) × Each BlockDistinct f) = file-distinct f h nothing in (
-        λ d. clean-repeat nothing (fileYield f) (k .1 (d .codes, d .blocks) .1),
+      let k : (Unit {0} × Clean nothing (fileYield frameEnd f)) ↔ (Distinct (flatMap blockCode f) × Each BlockDistinct f) = file-distinct f h nothing in (
+        λ d. clean-repeat nothing (fileYield frameEnd f) (k .1 (d .codes, d .blocks) .1),
         λ e.
-            let c : Distinct (flatMap blockCode f) × Each BlockDistinct f = k .0 (tt, repeat-clean nothing (fileYield f) e) in
+            let c : Distinct (flatMap blockCode f) × Each BlockDistinct f = k .0 (tt, repeat-clean nothing (fileYield frameEnd f) e) in
             record { blocks = c .1; codes = c .0 },
       )

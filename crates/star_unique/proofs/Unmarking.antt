@@ -1,123 +1,88 @@
--- Putting the kinds back: a marked word has its kind, and a table without marks is table 1.
-use mathlib.Core.Path.{_≡_, refl, sym, _∙_, ap, subst}
+-- Putting kinds back: a word that stands for its row's kind leaves the kinds of a table as they are, and is put back to it.
+use mathlib.Core.Path.{_≡_, refl, sym, _∙_, ap}
 use mathlib.Core.Bool.{Bool, true, false, cond}
-use mathlib.Core.List.{List, map}
+use mathlib.Core.List.{List}
 use Prim.Native.Nat.{ℕ, zero, suc, _+_, _*_, _%_, _≤_, _<_}
+use native.Mathlib.Numerals.{add-one}
 use native.Mathlib.Omega.{arith}
 use lib.Dec.{eqb, ltb}
-use borrow.Author.Tests.{ltb-true, ltb-false, eqb-true, ne-eqb}
+use borrow.Author.Tests.{ltb-true, ltb-false, eqb-true, eqb-false}
 use lib.ListN.{length, getD, set, length-set}
-use lib.Seq.{ext-getD}
-use Rattle.star_lex.specs.Tokens.{Token, Each}
-use Rattle.star_text.specs.Outcome.{refused, accepted}
-use Rattle.star_lex.specs.Split.{Split, tokensOf, placed}
-use Rattle.star_lex.proofs.Formed.{WellFormed, block, frame, frameEnd, loop, stop, name, word, reference, single, double, text, global}
-use Rattle.star_lex.proofs.WellFormed.{split-well-formed}
-use Rattle.star_lex.specs.Holds.{Holds, fileTokens, tokenAt}
-use Rattle.star_unique.specs.Chain.{heldTable, nameSort, sortAt, scopeAt, markAt, unmarkedKind}
-use Rattle.star_unique.specs.Marked.{Marked}
-use Rattle.star_lex.proofs.Held.{held-row, count-tokens}
-use Rattle.star_lex.proofs.Each.{each-at}
-use Rattle.star_unique.proofs.Marks.{mark-sort}
-use Rattle.star_unique.proofs.Marking.{word-here, word-other, spans-set}
+use lib.Seq.{getD-set-same, getD-set-other, set-getD, set-set, set-comm, set-out}
+use Rattle.star_unique.specs.Chain.{unmarkedKind, kindsIn, unmarked}
+use Rattle.star_unique.proofs.KindWords.{unmark-small}
 
-kind-small : (t : Token) → WellFormed t → t .kind ≤ 12
-kind-small t (block first others a l) = omega arith
-kind-small t (frame first others a l) = omega arith
-kind-small t frameEnd = omega arith
-kind-small t loop = omega arith
-kind-small t stop = omega arith
-kind-small t (name first others a l) = omega arith
-kind-small t (word first others a o) = omega arith
-kind-small t (reference first others a) = omega arith
-kind-small t (single c a q) = omega arith
-kind-small t (double c a q) = omega arith
-kind-small t (text c a f) = omega arith
-kind-small t global = omega arith
+-- a kind word that is written
+module _ (words : List ℕ) (i v : ℕ) where
+  pub word-here : i * 3 < length words → getD (set words (i * 3) v) (i * 3) 0 ≡ v
+  word-here h = getD-set-same words (i * 3) v 0 h
 
-all-formed : (file : List ℕ) → Each WellFormed (fileTokens file)
-unfolding placed
-all-formed file = go (tokensOf file) refl
-  where
-    go : (s : Split) → tokensOf file ≡ s → Each WellFormed (map (λ p. p .token) (placed s))
-    go (refused n place) e = tt
-    go (accepted ps) e = split-well-formed file ps e
+  pub word-other : (m : ℕ) → (m ≡ i → ⊥) → getD (set words (i * 3) v) (m * 3) 0 ≡ getD words (m * 3) 0
+  word-other m d = getD-set-other words (i * 3) (m * 3) v 0 (λ e. d (omega arith))
 
-pub kind-below : (file words : List ℕ) (count : ℕ) → Holds file words count → (n : ℕ) → n < count → tokenAt file n .kind ≤ 12
-kind-below file words count h n below =
-    kind-small _ (each-at WellFormed (fileTokens file) n _ (omega (arith, count-tokens file words count h)) (all-formed file))
-
--- a marked word has its kind
-module _ (at : ℕ → Token) (n : ℕ) (small : at n .kind ≤ 12) where
-  low : (sort kind : ℕ) → sortAt at n ≡ sort → (sort ≡ 0 → ⊥) → cond (eqb sort 13) 6 sort ≡ kind → unmarkedKind (markAt at n) ≡ kind
-  unfolding unmarkedKind
-  low sort kind e some q = rw (mark-sort at n (λ z. some (sym e ∙ z)), e) q
-
-  pub mark-kind : unmarkedKind (markAt at n) ≡ at n .kind
-  unfolding markAt unmarkedKind sortAt nameSort
-  mark-kind = go (scopeAt at n .inside) refl (eqb (at n .kind) 6) refl (eqb (at n .kind) 1) refl (eqb (at n .kind) 2) refl
+  -- where it stands for the kind of its row, the kinds stay
+  pub kinds-set : unmarkedKind v ≡ kindsIn words i → kindsIn (set words (i * 3) v) ≡ kindsIn words
+  unfolding kindsIn
+  kinds-set e = λ j m. each m (eqb m i) refl (ltb (i * 3) (length words)) refl j
     where
-      go : (i : Bool) → scopeAt at n .inside ≡ i → (p : Bool) → eqb (at n .kind) 6 ≡ p → (q : Bool) → eqb (at n .kind) 1 ≡ q → (r : Bool)
-          → eqb (at n .kind) 2 ≡ r → unmarkedKind (markAt at n) ≡ at n .kind
-      go true e true d q f r g = low 13 (at n .kind) (rw (d, e)) (λ z. absurd (omega arith)) (sym (eqb-true _ _ d))
-      go false e true d q f r g = low 6 (at n .kind) (rw (d, e)) (λ z. absurd (omega arith)) (sym (eqb-true _ _ d))
-      go i e false d true f r g = low 1 (at n .kind) (rw (d, f)) (λ z. absurd (omega arith)) (sym (eqb-true _ _ f))
-      go i e false d false f true g = low 2 (at n .kind) (rw (d, f, g)) (λ z. absurd (omega arith)) (sym (eqb-true _ _ g))
-      go i e false d false f false g =
-          let same : at n .kind % 16 ≡ at n .kind = omega arith in
-          rw (d, f, g, same, ne-eqb (at n .kind) 13 (λ z. absurd (omega arith)))
+      each : (m : ℕ) (t : Bool) → eqb m i ≡ t → (r : Bool) → ltb (i * 3) (length words) ≡ r
+          → unmarkedKind (getD (set words (i * 3) v) (m * 3) 0) ≡ unmarkedKind (getD words (m * 3) 0)
+      each m false d r l = ap unmarkedKind (word-other m (eqb-false m i d))
+      each m true d true l = rw (eqb-true m i d) (ap unmarkedKind (word-here (ltb-true _ _ l)) ∙ e)
+      each m true d false l = rw (set-out words (i * 3) v (ltb-false _ _ l))
 
-module _ (file words : List ℕ) (count n rows : ℕ) (k : Marked file words count n rows) (below : n < rows) (within : rows ≤ count) where
-  pub marked-room : n * 3 < length words
-  marked-room = omega (arith, k .spans .table .room, k .spans .table .count-is, k .spans .size)
-
-  kind-back : unmarkedKind (getD words (n * 3) 0) ≡ getD (heldTable file (length words)) (n * 3) 0
-  kind-back =
-      ap unmarkedKind (k .marked n (omega arith) below)
-      ∙ mark-kind (tokenAt file) n (kind-below file _ count (k .spans .table) n (omega arith))
-      ∙ sym (held-row file (heldTable file (length words)) count (k .spans .table) n (omega arith) .kind)
-
-  pub unmark-one : Marked file (set words (n * 3) (unmarkedKind (getD words (n * 3) 0))) count (n + 1) rows
-  unmark-one = record {
-    spans = spans-set words n _ file count (k .spans);
-    before = λ m h. rw length-set (each m h (ltb m n) refl);
-    marked = λ m g h. word-other words n _ m (λ q. absurd (omega arith)) ∙ k .marked m (omega arith) h;
-    ahead = λ m h. rw length-set (word-other words n _ m (λ q. absurd (omega arith)) ∙ k .ahead m h);
-  }
-    where
-      each : (m : ℕ) → m < n + 1 → (t : Bool) → ltb m n ≡ t
-          → getD (set words (n * 3) (unmarkedKind (getD words (n * 3) 0))) (m * 3) 0 ≡ getD (heldTable file (length words)) (m * 3) 0
-      each m h true d =
-          let l : m < n = ltb-true m n d in
-          word-other words n _ m (λ q. absurd (omega arith)) ∙ k .before m l
-      each m h false d =
-          let q : m ≡ n = omega (arith, ltb-false m n d) in
-          subst (λ i. getD (set words (n * 3) (unmarkedKind (getD words (n * 3) 0))) (i * 3) 0 ≡ getD (heldTable file (length words)) (i * 3) 0) (sym q)
-          (word-here words n _ marked-room ∙ kind-back)
-
--- every place is a kind word, or a word of a span
-data Place : ℕ → Type 0 where
-  kind : (m : ℕ) → Place (m * 3)
-  start : (m : ℕ) → Place (m * 3 + 1)
-  end : (m : ℕ) → Place (m * 3 + 2)
-
-place : (i : ℕ) → Place i
-place zero = subst Place (omega arith) (kind 0)
-place (suc i) = next i (place i)
+unmark-again : (w : ℕ) → unmarkedKind (unmarkedKind w) ≡ unmarkedKind w
+unfolding unmarkedKind
+unmark-again w = go (eqb (w % 16) 13) refl
   where
-    next : (i : ℕ) → Place i → Place (suc i)
-    next j (kind m) = subst Place (omega arith) (start m)
-    next j (start m) = subst Place (omega arith) (end m)
-    next j (end m) = subst Place (omega arith) (kind (suc m))
+    go : (t : Bool) → eqb (w % 16) 13 ≡ t → unmarkedKind (cond t 6 (w % 16)) ≡ cond t 6 (w % 16)
+    go true e = refl
+    go false e =
+        let same : w % 16 % 16 ≡ w % 16 = omega arith in
+        rw (same, e)
 
-pub unmarked : (file words : List ℕ) (count rows : ℕ) → Marked file words count rows rows → words ≡ heldTable file (length words)
-unmarked file words count rows k = ext-getD 0 words (heldTable file (length words)) (sym (k .spans .size)) (λ i h. word i (place i))
-  where
-    kinds : (m : ℕ) (t : Bool) → ltb m rows ≡ t → getD words (m * 3) 0 ≡ getD (heldTable file (length words)) (m * 3) 0
-    kinds m true e = k .before m (ltb-true m rows e)
-    kinds m false e = k .ahead m (ltb-false m rows e)
+-- putting kinds back
+pub length-unmarked : (rows : ℕ) (words : List ℕ) → length (unmarked rows words) ≡ length words
+unfolding unmarked
+length-unmarked zero words = refl
+length-unmarked (suc n) words = length-set (unmarked n words) (n * 3) _ ∙ length-unmarked n words
 
-    word : (i : ℕ) → Place i → getD words i 0 ≡ getD (heldTable file (length words)) i 0
-    word i (kind m) = kinds m (ltb m rows) refl
-    word i (start m) = k .spans .starts m
-    word i (end m) = k .spans .ends m
+pub kinds-unmarked : (rows : ℕ) (words : List ℕ) → kindsIn (unmarked rows words) ≡ kindsIn words
+unfolding unmarked kindsIn
+kinds-unmarked zero words = refl
+kinds-unmarked (suc n) words =
+    kinds-set (unmarked n words) n (kindsIn (unmarked n words) n) (unmark-again (getD (unmarked n words) (n * 3) 0)) ∙ kinds-unmarked n words
+
+-- one row more
+pub unmarked-next : (n : ℕ) (words now : List ℕ) → now ≡ unmarked n words → set now (n * 3) (unmarkedKind (getD now (n * 3) 0)) ≡ unmarked (n + 1) words
+unfolding unmarked kindsIn
+unmarked-next n words now e = rw (add-one, e)
+
+-- the rows that follow stay as they are
+unmarked-ahead : (n : ℕ) (words : List ℕ) (m : ℕ) → n ≤ m → getD (unmarked n words) (m * 3) 0 ≡ getD words (m * 3) 0
+unfolding unmarked
+unmarked-ahead zero words m h = refl
+unmarked-ahead (suc n) words m h =
+    word-other (unmarked n words) n _ m (λ e. absurd (omega arith)) ∙ unmarked-ahead n words m (omega arith)
+
+unmarked-set : (n : ℕ) (words : List ℕ) (m v : ℕ) → n ≤ m → unmarked n (set words (m * 3) v) ≡ set (unmarked n words) (m * 3) v
+unfolding unmarked kindsIn
+unmarked-set zero words m v h = refl
+unmarked-set (suc n) words m v h =
+    rw (unmarked-set n words m v (omega arith), word-other (unmarked n words) m v n (λ e. absurd (omega arith)))
+    (set-comm (unmarked n words) (m * 3) (n * 3) v _ (λ e. absurd (omega arith)))
+
+module _ (words : List ℕ) (n : ℕ) where
+  -- a row that is not marked
+  pub unmarked-plain : getD words (n * 3) 0 ≤ 12 → unmarked (suc n) words ≡ unmarked n words
+  unfolding unmarked kindsIn
+  unmarked-plain h =
+      let q : getD (unmarked n words) (n * 3) 0 ≡ getD words (n * 3) 0 = unmarked-ahead n words n (omega arith) in
+      ap (set (unmarked n words) (n * 3)) (unmark-small (getD (unmarked n words) (n * 3) 0) (omega arith)) ∙ set-getD (unmarked n words) (n * 3) 0
+
+  -- a row that is marked by a word that stands for its kind
+  pub unmarked-mark : (v : ℕ) → n * 3 < length words → unmarkedKind v ≡ getD words (n * 3) 0 → unmarked (suc n) (set words (n * 3) v) ≡ unmarked n words
+  unfolding unmarked kindsIn
+  unmarked-mark v h e =
+      rw (unmarked-set n words n v (omega arith), word-here (unmarked n words) n v (omega (arith, length-unmarked n words)), set-set, e)
+      (ap (set (unmarked n words) (n * 3)) (sym (unmarked-ahead n words n (omega arith))) ∙ set-getD (unmarked n words) (n * 3) 0)

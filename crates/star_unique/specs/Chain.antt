@@ -4,10 +4,13 @@ use mathlib.Core.Bool.{Bool, true, false, cond, _&&_, _||_}
 use mathlib.Core.List.{List, [], _∷_}
 use Prim.Native.Nat.{ℕ, zero, suc, _+_, _*_, _/_, _%_}
 use lib.Dec.{eqb, leb, ltb}
+use lib.ListN.{getD, set}
 use Rattle.star_text.specs.Names.{key, same}
+use Rattle.star_rows.specs.Widths.{tokenWidth}
 use Rattle.star_rows.specs.Rows.{holding}
 use Rattle.star_lex.specs.Tokens.{Token, tokenRow}
 use Rattle.star_lex.specs.Split.{tokensOf, placed}
+use Rattle.star_lex.specs.Holds.{tokenAt}
 use Rattle.star_unique.specs.declared.Scope.{Scope}
 
 -- table 1 of a file in so many words
@@ -77,6 +80,24 @@ markAt at n = cond (eqb (sortAt at n) 0) (at n .kind) (signOf (sortAt at n) (at 
 -- the kind that a marked word stands for
 unfoldable pub unmarkedKind : ℕ → ℕ
 unmarkedKind word = cond (eqb (word % 16) 13) 6 (word % 16)
+
+-- the kinds of the rows of a table, marked or not
+unfoldable pub kindsIn : List ℕ → ℕ → ℕ
+kindsIn words n = unmarkedKind (getD words (n * tokenWidth) 0)
+
+-- a table with the kinds of so many rows put back
+unfoldable pub unmarked : (rows : ℕ) → List ℕ → List ℕ
+unmarked zero words = words
+unmarked (suc n) words = set (unmarked n words) (n * tokenWidth) (kindsIn (unmarked n words) n)
+
+-- the tokens of a file, with these kinds
+abbrev pub tokenBy : (file : List ℕ) (kinds : ℕ → ℕ) → ℕ → Token
+tokenBy file kinds n = record { kind = kinds n; content = tokenAt file n .content }
+
+-- a row of tokens with these kinds, the first of which has this number
+unfoldable pub withKinds : (kinds : ℕ → ℕ) (first : ℕ) → List Token → List Token
+withKinds kinds n [] = []
+withKinds kinds n (t ∷ ts) = record { kind = kinds n; content = t .content } ∷ withKinds kinds (suc n) ts
 
 -- a token before the n-th, not before the floor, is of this sort and equal to these bytes
 unfoldable pub earlier : (ℕ → Token) → (sort : ℕ) → List ℕ → (floor n : ℕ) → Bool

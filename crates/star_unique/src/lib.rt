@@ -4,14 +4,14 @@ ghost use mathlib.Core.Path.{_≡_};
 ghost use mathlib.Core.Bool.{true, false, _&&_};
 ghost use Prim.Native.Nat.{_+_, _*_, _/_, _%_, _≤_, _<_};
 ghost use lib.Dec.{eqb};
-ghost use lib.ListN.{length, getD};
+ghost use lib.ListN.{getD};
 ghost use Rattle.star_rows.specs.Widths.{tokenWidth};
 ghost use Rattle.star_text.specs.Names.{same as Names·same};
 ghost use Rattle.star_unique.specs.Repeat.{nothing, firstRepeat};
-ghost use Rattle.star_lex.specs.Holds.{Holds, fileTokens, tokenAt};
-ghost use Rattle.star_unique.specs.Chain.{nameSort, floorOf, opensBlock, isValueKind, passed, scopeAt, hashOf, bucketOf, signOf, bucketAt, latest, earlier, unmarkedKind, heldTable};
-ghost use Rattle.star_unique.specs.Marked.{Spans, Marked, Heads, Visited};
-ghost use Rattle.star_unique.specs.Compared.{Compares};
+ghost use Rattle.star_lex.specs.Holds.{fileTokens, tokenAt};
+ghost use Rattle.star_unique.specs.Chain.{nameSort, floorOf, opensBlock, isValueKind, passed, scopeAt, hashOf, bucketOf, signOf, bucketAt, latest, earlier, unmarkedKind, kindsIn, unmarked, tokenBy, withKinds};
+ghost use Rattle.star_unique.specs.Marked.{Spans, Plain, Marked, Heads, Visited};
+ghost use Rattle.star_unique.specs.Compared.{asToday, Compares};
 
 // The words of a row of table 1.
 const WIDTH: usize = star_rows::TOKEN_WIDTH as usize;
@@ -138,12 +138,12 @@ fn follow(
     sign: u32,
     bytes: &[u8],
 ) -> bool
-    requires { ⌜ Marked (now file) (now tokens) count 0 n ⌝ }
+    requires { ⌜ Marked (now file) (kindsIn (now tokens)) (now tokens) count n ⌝ }
     requires { ⌜ n ≤ count ⌝ }
     requires { ⌜ (sign % 16 ≡ 0 → ⊥) ⌝ }
     requires { ⌜ sign ≡ signOf (sign % 16) (now bytes) ⌝ }
-    requires { ⌜ last ≡ latest (bucketAt (tokenAt (now file))) (bucketOf (sign % 16) (now bytes)) n ⌝ }
-    ensures { λ r. ⌜ r ≡ earlier (tokenAt (now (file .entry))) (sign % 16) (now (bytes .entry)) floor n ⌝ }
+    requires { ⌜ last ≡ latest (bucketAt (tokenBy (now file) (kindsIn (now tokens)))) (bucketOf (sign % 16) (now bytes)) n ⌝ }
+    ensures { λ r. ⌜ r ≡ earlier (tokenBy (now (file .entry)) (kindsIn (now (tokens .entry)))) (sign % 16) (now (bytes .entry)) floor n ⌝ }
 {
     let mut row = last as usize;
     while row > floor {
@@ -164,11 +164,11 @@ fn visit(
     n: usize,
     scope: Scope,
 ) -> bool
-    requires { ⌜ Marked (now file) (now tokens) count 0 n ⌝ }
-    requires { ⌜ Heads (now file) (now heads) n ⌝ }
+    requires { ⌜ Marked (now file) (kindsIn (now tokens)) (now tokens) count n ⌝ }
+    requires { ⌜ Heads (now file) (kindsIn (now tokens)) (now heads) n ⌝ }
     requires { ⌜ n < count ⌝ }
-    requires { ⌜ scope ≡ scopeAt (tokenAt (now file)) n ⌝ }
-    ensures { λ r. ⌜ Visited (now (file .entry)) count n r (now (tokens .exit)) (now (heads .exit)) ⌝ }
+    requires { ⌜ scope ≡ scopeAt (tokenBy (now file) (kindsIn (now tokens))) n ⌝ }
+    ensures { λ r. ⌜ Visited (now (file .entry)) (now (tokens .entry)) count n r (now (tokens .exit)) (now (heads .exit)) ⌝ }
 {
     let inside = scope.inside;
     let sort = sort_of(inside, tokens[n * WIDTH]);
@@ -206,10 +206,11 @@ fn is_value(kind: u32) -> bool
 
 // How many tokens stand before the first that is taken; those are marked. Values are passed over.
 fn mark(file: &[u8], tokens: &mut [u32], count: usize, heads: &mut [u32]) -> usize
-    requires { ⌜ Holds (now file) (now tokens) count ⌝ }
-    requires { ⌜ Heads (now file) (now heads) 0 ⌝ }
-    ensures { λ r. ⌜ r ≡ firstRepeat nothing (fileTokens (now (file .entry))) ⌝ }
-    ensures { λ r. ⌜ Marked (now (file .entry)) (now (tokens .exit)) count 0 r ⌝ }
+    requires { ⌜ Plain (now file) (now tokens) count ⌝ }
+    requires { ⌜ Heads (now file) (kindsIn (now tokens)) (now heads) 0 ⌝ }
+    ensures { λ r. ⌜ r ≡ firstRepeat nothing (withKinds (kindsIn (now (tokens .entry))) 0 (fileTokens (now (file .entry)))) ⌝ }
+    ensures { λ _. ⌜ Spans (now (file .entry)) (now (tokens .exit)) count ⌝ }
+    ensures { λ r. ⌜ unmarked r (now (tokens .exit)) ≡ now (tokens .entry) ⌝ }
 {
     let mut scope = Scope {
         block: 0,
@@ -245,9 +246,9 @@ fn kind_of(word: u32) -> u32
 
 // Puts the kinds of so many tokens back.
 fn unmark(file: &[u8], tokens: &mut [u32], count: usize, rows: usize)
-    requires { ⌜ Marked (now file) (now tokens) count 0 rows ⌝ }
+    requires { ⌜ Spans (now file) (now tokens) count ⌝ }
     requires { ⌜ rows ≤ count ⌝ }
-    ensures { λ _. ⌜ now (tokens .exit) ≡ heldTable (now (file .entry)) (length (now (tokens .entry))) ⌝ }
+    ensures { λ _. ⌜ now (tokens .exit) ≡ unmarked rows (now (tokens .entry)) ⌝ }
 {
     let mut n = 0;
     while n < rows {
@@ -256,10 +257,10 @@ fn unmark(file: &[u8], tokens: &mut [u32], count: usize, rows: usize)
     }
 }
 
-// How many tokens stand before the first that repeats a name or code of its scope; all of them where none does. It leaves table 1 as it was.
+// How many tokens, with the kinds that table 1 has, stand before the first that repeats a name or code of its scope; all of them where none does. It leaves table 1 as it was.
 fn first_repeat(file: &[u8], tokens: &mut [u32], count: usize) -> usize
-    requires { ⌜ Holds (now file) (now tokens) count ⌝ }
-    ensures { λ r. ⌜ r ≡ firstRepeat nothing (fileTokens (now (file .entry))) ⌝ }
+    requires { ⌜ Plain (now file) (now tokens) count ⌝ }
+    ensures { λ r. ⌜ r ≡ firstRepeat nothing (withKinds (kindsIn (now (tokens .entry))) 0 (fileTokens (now (file .entry)))) ⌝ }
     ensures { λ _. ⌜ now (tokens .exit) ≡ now (tokens .entry) ⌝ }
 {
     let mut heads: [u32; 4096] = [0; 4096];
@@ -277,9 +278,18 @@ pub struct Compared {
     pub taken: usize,
 }
 
-// Splits a file into tokens, stores them as table 1, and looks for the first that repeats a name or code; on a refusal every word of the table is 0.
-pub fn read_tokens(file: &[u8], table: &mut [u32]) -> Compared
-    ensures { λ r. ⌜ Compares (now (file .entry)) (now (table .entry)) (now (table .exit)) r ⌝ }
+// Gives so many rows of a layout the kinds of today's: in the 1991 layout the `stop_` that closes a frame gets that of `save_`.
+fn to_today(layout: u32, tokens: &mut [u32], count: usize)
+    ensures { λ _. ⌜ now (tokens .exit) ≡ asToday layout count (now (tokens .entry)) ⌝ }
+{
+    if layout == 1 {
+        star_frames::close_frames(tokens, count);
+    }
+}
+
+// Splits a file into tokens, stores them as table 1, with the kinds of today's layout, and looks for the first that repeats a name or code; on a refusal every word of the table is 0.
+pub fn read_tokens(file: &[u8], layout: u32, table: &mut [u32]) -> Compared
+    ensures { λ r. ⌜ Compares layout (now (file .entry)) (now (table .entry)) (now (table .exit)) r ⌝ }
 {
     let found = star_lex::read_tokens(file, table);
     if found.refusal != 0 {
@@ -291,6 +301,7 @@ pub fn read_tokens(file: &[u8], table: &mut [u32]) -> Compared
         };
     }
     let count = found.count;
+    to_today(layout, table, count as usize);
     let taken = first_repeat(file, table, count as usize);
     Compared {
         refusal: 0,

@@ -24,14 +24,14 @@ plain-one : (t : Token) → plainOf (t ∷ []) ≡ plainToken today t
 unfolding plainBy flatMap
 plain-one t = append-nil (plainToken today t)
 
-plain-append : (ts us : List Token) → plainOf (ts ++ us) ≡ plainOf ts ++ plainOf us
+pub plain-append : (ts us : List Token) → plainOf (ts ++ us) ≡ plainOf ts ++ plainOf us
 unfolding plainBy
 plain-append = flat-append (plainToken today)
 
-plain-next : (n : ℕ) (ts : List Token) (d : Token) → n < length ts → plainFirst (n + 1) ts ≡ plainFirst n ts ++ plainToken today (getD ts n d)
+pub plain-next : (n : ℕ) (ts : List Token) (d : Token) → n < length ts → plainFirst (n + 1) ts ≡ plainFirst n ts ++ plainToken today (getD ts n d)
 plain-next n ts d h = rw (add-one, take-suc ts n d h, plain-append, plain-one)
 
-plain-within : (n : ℕ) (ts : List Token) → length (plainFirst n ts) ≤ length (plainOf ts)
+pub plain-within : (n : ℕ) (ts : List Token) → length (plainFirst n ts) ≤ length (plainOf ts)
 plain-within n ts =
     let whole : plainFirst n ts ++ plainOf (drop n ts) ≡ plainOf ts = sym (plain-append (take n ts) (drop n ts)) ∙ ap plainOf (take-append-drop n ts) in
     omega (arith, simp length-append at (ap length whole))

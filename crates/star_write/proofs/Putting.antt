@@ -58,3 +58,13 @@ module _ {bytes before after : List ℕ} {count : ℕ} (f : Filled bytes before 
             ∙ rw (append-nil, first, q .leaves, take-all (length after - count) (drop count after) short, past others)
             (sym (append-assoc bytes others _));
       }
+
+  -- bytes that stand there already
+  pub fill-kept : (more tail : List ℕ) → drop (length bytes) before ≡ more ++ tail → Filled (bytes ++ more) before after (count + length more)
+  fill-kept more tail e = record {
+    counts = rw (f .counts) (sym (length-append bytes more));
+    leaves =
+        f .leaves ∙ ap (λ l. bytes ++ l) (e ∙ ap (λ l. more ++ l) (sym (ap (drop (length more)) e ∙ drop-at more tail (length more) refl)
+        ∙ drop-drop (length more) (length bytes) before ∙ ap (λ n. drop n before) (sym (length-append bytes more))))
+        ∙ sym (append-assoc bytes more _);
+  }

@@ -8,14 +8,14 @@ use borrow.Author.Tests.{le-leb}
 use lib.ListN.{length, length-map}
 use Rattle.star_text.specs.Outcome.{accepted, then, need}
 use Rattle.star_text.specs.Bytes.{mostBytes}
-use Rattle.star_lex.specs.Rules.{today}
+use Rattle.star_lex.specs.Rules.{Rules, today}
 use Rattle.star_lex.specs.Tokens.{Token, Placed}
 use Rattle.star_lex.specs.Split.{tokensOf}
 use Rattle.star_lex.specs.Plain.{plainOf}
 use Rattle.star_lex.proofs.WellFormed.{split-well-formed}
 use Rattle.star_lex.proofs.PlainSplit.{lex-plain}
 use Rattle.star_grammar.specs.Tables.{rowsOf}
-use Rattle.star_grammar.specs.Reading.{Reading}
+use Rattle.star_grammar.specs.Reading.{ReadingBy, Reading}
 use Rattle.star_read.specs.Read.{Sizes, tokensOnly, readOf}
 use Rattle.star_read.specs.Demands.{Room, Tokenized}
 use Rattle.star_read.proofs.Usable.{today-usable}
@@ -25,7 +25,7 @@ use Rattle.star_write.specs.Demands.{ReadsBack, RoundTrip, WritesAgain}
 use Rattle.star_write.proofs.Outcomes.{Wrote, wrote}
 
 -- tokens of the same kinds and contents have the same readings
-moved : {ts us : List Token} → ts ≡ us → Reading ts → Reading us
+unfoldable pub moved : {rules : Rules} {ts us : List Token} → ts ≡ us → ReadingBy rules ts → ReadingBy rules us
 moved e r = record { tree = r .tree; yield = r .yield ∙ e; whole = r .whole; distinct = r .distinct }
 
 -- a file that splits into such tokens is read with the same rows
@@ -42,7 +42,7 @@ reads-same plain words ps qs r small splits e table rooms =
 
 pub round-trip : RoundTrip
 round-trip file words room ps rows plain e others table rooms =
-    let w : Wrote file words room ps rows plain = wrote file words room ps rows plain e in
+    let w : Wrote (readOf file words) (λ ts. ts) room ps rows plain = wrote file words room ps rows plain e in
     let r = rows-of-reading today today-usable file words ps rows (w .reads) in
     let l = lex-plain (tokensOnly ps) (split-well-formed file ps (r .0)) in
     record {
@@ -56,7 +56,7 @@ round-trip file words room ps rows plain e others table rooms =
 pub writes-again : WritesAgain
 unfolding writeOf plainFits then need
 writes-again file words room ps rows plain e others table rooms space fits =
-    let w : Wrote file words room ps rows plain = wrote file words room ps rows plain e in
+    let w : Wrote (readOf file words) (λ ts. ts) room ps rows plain = wrote file words room ps rows plain e in
     let b : ReadsBack plain others ps rows = round-trip file words room ps rows plain e others table rooms in
     let same : plainOf (tokensOnly (b .tokens)) ≡ plain = ap plainOf (b .same) ∙ w .plain-is in
     (b .tokens, rw (b .accepts, same, le-leb (length plain) mostBytes (w .small), le-leb (length plain) space fits))

@@ -3,6 +3,7 @@
 pub mod columns;
 pub mod globals;
 pub mod indexes;
+pub mod layouts;
 pub mod numbers;
 pub mod pairs;
 pub mod twins;

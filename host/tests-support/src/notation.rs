@@ -98,6 +98,26 @@ fn vector(line: usize, text: &str) -> Vector {
     vector
 }
 
+/// A file, the layout that it is read in, and the answers that are expected for it.
+#[derive(Clone, Debug)]
+pub struct LayoutVector {
+    /// The layout's number.
+    pub layout: u32,
+    /// The file and what is read; the plain form is that in the other layout.
+    pub of: Vector,
+}
+
+/// The vectors of a list of layouts; its first line says how it is written.
+pub fn layout_vectors(list: &str) -> Vec<LayoutVector> {
+    let lines = list.lines().enumerate().skip(1);
+    lines.map(|(at, line)| layout_vector(at + 1, line)).collect()
+}
+
+fn layout_vector(line: usize, text: &str) -> LayoutVector {
+    let (layout, rest) = text.split_once(" | ").expect("a layout and a file");
+    LayoutVector { layout: layout.parse().expect("a layout"), of: vector(line, rest) }
+}
+
 fn numbers(text: &str) -> Vec<u32> {
     let words = text.split([' ', ',']).filter(|word| !word.is_empty());
     words.map(|word| word.parse().expect("a number")).collect()

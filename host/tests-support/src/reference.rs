@@ -208,7 +208,51 @@ fn is_name_or_code(kind: u32) -> bool {
 
 // -------------------------------------------------------------- grammar
 
-/// The rows of tables 2 to 5.
+/// What closes a save frame.
+#[derive(Clone, Copy, Debug, PartialEq, Eq)]
+pub enum Layout {
+    /// `save_` alone.
+    Today,
+    /// `stop_`.
+    Of1991,
+}
+
+impl Layout {
+    /// The layout of a number, if it has one.
+    pub fn of(number: u32) -> Option<Layout> {
+        match number {
+            0 => Some(Layout::Today),
+            1 => Some(Layout::Of1991),
+            _ => None,
+        }
+    }
+
+    /// The other layout.
+    pub fn other(self) -> Layout {
+        match self {
+            Layout::Today => Layout::Of1991,
+            Layout::Of1991 => Layout::Today,
+        }
+    }
+
+    /// The kind of the token that closes a save frame.
+    fn frame_end(self) -> u32 {
+        match self {
+            Layout::Today => 3,
+            Layout::Of1991 => 5,
+        }
+    }
+
+    /// That token.
+    fn frame_end_word(self) -> &'static [u8] {
+        match self {
+            Layout::Today => b"save_",
+            Layout::Of1991 => b"stop_",
+        }
+    }
+}
+
+/// The rows of tables 2 to 5, and what no table holds.
 #[derive(Clone, Debug, Default, PartialEq, Eq)]
 pub struct Rows {
     /// Kind, heading token, parent set.
@@ -219,11 +263,13 @@ pub struct Rows {
     pub packets: Vec<[u32; 3]>,
     /// Name row, packet, token, next value row of the same name.
     pub values: Vec<[u32; 4]>,
+    /// The token rows that close save frames.
+    pub frame_ends: Vec<u32>,
 }
 
-/// The rows of a file's tokens, or the first of refusals 8 to 11.
-pub fn rows(file: &[u8], tokens: &[Token]) -> Result<Rows, Refusal> {
-    let mut parser = Parser { file, tokens, next: 0, loops: 0, rows: Rows::default() };
+/// The rows of a file's tokens by a layout, or the first of refusals 8 to 11.
+pub fn rows(file: &[u8], tokens: &[Token], layout: Layout) -> Result<Rows, Refusal> {
+    let mut parser = Parser { file, tokens, layout, next: 0, loops: 0, rows: Rows::default() };
     let mut codes = HashSet::new();
     loop {
         let (kind, heading) = match parser.kind() {
@@ -257,6 +303,7 @@ type Contents<'a> = HashSet<Content<'a>>;
 struct Parser<'a> {
     file: &'a [u8],
     tokens: &'a [Token],
+    layout: Layout,
     /// Tokens taken so far; the row of the last one.
     next: usize,
     loops: u32,
@@ -319,7 +366,8 @@ impl<'a> Parser<'a> {
         }
     }
 
-    /// A heading, items and loops, and `save_`.
+    /// A heading, items and loops, and what closes a frame in the layout. A loop takes the
+    /// `stop_` of its header and of its inner levels before one can close the frame.
     fn frame(&mut self, block: u32, frame_codes: &mut Contents<'a>) -> Result<(), Refusal> {
         let heading = self.take_unique(frame_codes)?;
         self.rows.sets.push([2, heading, block]);
@@ -329,8 +377,9 @@ impl<'a> Parser<'a> {
             match self.kind() {
                 6 => self.item(set, &mut names)?,
                 4 => self.data_loop(set, &mut names)?,
-                3 => {
-                    self.take();
+                kind if kind == self.layout.frame_end() => {
+                    let end = self.take();
+                    self.rows.frame_ends.push(end);
                     return Ok(());
                 }
                 _ => return self.refuse(8),
@@ -421,15 +470,27 @@ impl<'a> Parser<'a> {
 
 // -------------------------------------------------------------- reading
 
+/// The rules by which a file is read: its layout, and the limit of names and codes.
+#[derive(Clone, Copy, Debug)]
+struct Rules {
+    layout: Layout,
+    longest: usize,
+}
+
+/// Today's rules for a file of this layout.
+fn rules(layout: Layout) -> Rules {
+    Rules { layout, longest: MOST_NAME_BYTES }
+}
+
 /// A file's tokens, none if it does not split into them, and its rows or the
-/// refusal it meets however much room there is, by this limit of names and codes.
-fn parsed(file: &[u8], longest: usize) -> (Vec<Token>, Result<Rows, Refusal>) {
+/// refusal it meets however much room there is, by these rules.
+fn parsed(file: &[u8], rules: Rules) -> (Vec<Token>, Result<Rows, Refusal>) {
     if file.len() > MOST_BYTES {
         return (Vec::new(), Err(Refusal { number: 1, place: 0 }));
     }
-    match tokens_within(file, longest) {
+    match tokens_within(file, rules.longest) {
         Ok(tokens) => {
-            let rows = rows(file, &tokens);
+            let rows = rows(file, &tokens, rules.layout);
             (tokens, rows)
         }
         Err(refusal) => (Vec::new(), Err(refusal)),
@@ -439,7 +500,12 @@ fn parsed(file: &[u8], longest: usize) -> (Vec<Token>, Result<Rows, Refusal>) {
 /// The words that the file's rows need in each table. Where the file is
 /// refused whatever the room, only tokens that it splits into need any.
 pub fn words_needed(file: &[u8]) -> [usize; 5] {
-    match parsed(file, MOST_NAME_BYTES) {
+    words_needed_as(file, Layout::Today)
+}
+
+/// As `words_needed`, for a file of this layout.
+pub fn words_needed_as(file: &[u8], layout: Layout) -> [usize; 5] {
+    match parsed(file, rules(layout)) {
         (tokens, Ok(rows)) => words(&tokens, &rows).map(|table| table.len()),
         (tokens, Err(_)) => [3 * tokens.len(), 0, 0, 0, 0],
     }
@@ -456,39 +522,54 @@ fn words(tokens: &[Token], rows: &Rows) -> [Vec<u32>; 5] {
     ]
 }
 
-/// The tokens and tables of an accepted file, the tables without room to
-/// spare, or the refusal, by this limit of names and codes.
-fn reading(
-    file: &[u8],
-    room: [usize; 5],
-    longest: usize,
-) -> Result<(Vec<Token>, [Vec<u32>; 5]), Refusal> {
+/// What is made of an accepted file: its tokens, the token rows that close save frames,
+/// and its tables without room to spare.
+struct Accepted {
+    tokens: Vec<Token>,
+    frame_ends: Vec<u32>,
+    tables: [Vec<u32>; 5],
+}
+
+/// An accepted file, or the refusal, by these rules.
+fn reading(file: &[u8], room: [usize; 5], rules: Rules) -> Result<Accepted, Refusal> {
     let too_short = |table: usize| Refusal { number: 7, place: table + 1 };
-    let (tokens, rows) = parsed(file, longest);
+    let (tokens, rows) = parsed(file, rules);
     if 3 * tokens.len() > room[0] {
         return Err(too_short(0));
     }
-    let tables = words(&tokens, &rows?);
+    let rows = rows?;
+    let tables = words(&tokens, &rows);
     match (1..5).find(|&table| tables[table].len() > room[table]) {
         Some(table) => Err(too_short(table)),
-        None => Ok((tokens, tables)),
+        None => Ok(Accepted { tokens, frame_ends: rows.frame_ends, tables }),
     }
 }
 
-/// Reads a file into tables of these lengths: the answer and every word.
+/// The layout of a number, or the refusal that comes before all others.
+fn layout_of(number: u32) -> Result<Layout, Refusal> {
+    Layout::of(number).ok_or(Refusal { number: 14, place: 0 })
+}
+
+/// Reads a file of today's layout into tables of these lengths: the answer and every
+/// word.
 pub fn read(file: &[u8], room: [usize; 5]) -> (Reading, [Vec<u32>; 5]) {
-    read_within(file, room, MOST_NAME_BYTES)
+    answered(reading(file, room, rules(Layout::Today)), room)
+}
+
+/// As `read`, for a file of the layout with this number.
+pub fn read_as(file: &[u8], layout: u32, room: [usize; 5]) -> (Reading, [Vec<u32>; 5]) {
+    answered(layout_of(layout).and_then(|layout| reading(file, room, rules(layout))), room)
 }
 
 /// Reads a file as `read` did before the limit of names and codes was raised.
 pub fn read_by_old_limit(file: &[u8], room: [usize; 5]) -> (Reading, [Vec<u32>; 5]) {
-    read_within(file, room, OLD_NAME_BYTES)
+    answered(reading(file, room, Rules { longest: OLD_NAME_BYTES, ..rules(Layout::Today) }), room)
 }
 
-/// As `read`, with this limit of names and codes.
-fn read_within(file: &[u8], room: [usize; 5], longest: usize) -> (Reading, [Vec<u32>; 5]) {
-    match reading(file, room, longest) {
-        Ok((_, tables)) => (accepted(&tables), padded(tables, room)),
+/// The answer of a reading, and every word of tables of these lengths.
+fn answered(reading: Result<Accepted, Refusal>, room: [usize; 5]) -> (Reading, [Vec<u32>; 5]) {
+    match reading {
+        Ok(Accepted { tables, .. }) => (accepted(&tables), padded(tables, room)),
         Err(refusal) => (refused(refusal), padded(Default::default(), room)),
     }
 }
@@ -536,8 +617,13 @@ pub(crate) fn refused(refusal: Refusal) -> Reading {
 
 /// The plain form of tokens of a file, however long.
 pub fn plain_form(file: &[u8], tokens: &[Token]) -> Vec<u8> {
+    plain_form_closed(file, tokens, &[], b"")
+}
+
+/// The plain form of tokens of a file with this word for each of these token rows.
+fn plain_form_closed(file: &[u8], tokens: &[Token], rows: &[u32], word: &[u8]) -> Vec<u8> {
     let mut plain = Vec::new();
-    for token in tokens {
+    for (token, row) in tokens.iter().zip(1u32..) {
         let content = &file[token.start..token.end];
         let (before, after): (&[u8], &[u8]) = match token.kind {
             1 => (b"data_", b""),
@@ -550,6 +636,8 @@ pub fn plain_form(file: &[u8], tokens: &[Token]) -> Vec<u8> {
             11 => (b";", b"\n;"),
             _ => (b"", b""),
         };
+        // rows stand in file order
+        let content = if rows.binary_search(&row).is_ok() { word } else { content };
         plain.extend_from_slice(before);
         plain.extend_from_slice(content);
         plain.extend_from_slice(after);
@@ -561,18 +649,41 @@ pub fn plain_form(file: &[u8], tokens: &[Token]) -> Vec<u8> {
 /// Reads a file and writes its plain form, into tables and an output of these
 /// lengths: the answer, every word and every byte.
 pub fn write(file: &[u8], room: [usize; 5], out: usize) -> (Written, [Vec<u32>; 5], Vec<u8>) {
-    let written = reading(file, room, MOST_NAME_BYTES).and_then(|(tokens, tables)| {
-        let plain = plain_form(file, &tokens);
-        if plain.len() > MOST_BYTES {
-            Err(Refusal { number: 1, place: 0 })
-        } else if plain.len() > out {
-            Err(Refusal { number: 7, place: 6 })
-        } else {
-            Ok((accepted(&tables), tables, plain))
-        }
+    let plain = reading(file, room, rules(Layout::Today))
+        .map(|read| (plain_form(file, &read.tokens), read.tables));
+    written(plain, room, out)
+}
+
+/// Reads a file of the layout with this number and writes its plain form in the other:
+/// as `write`.
+pub fn convert(
+    file: &[u8],
+    layout: u32,
+    room: [usize; 5],
+    out: usize,
+) -> (Written, [Vec<u32>; 5], Vec<u8>) {
+    let plain = layout_of(layout).and_then(|layout| {
+        let Accepted { tokens, frame_ends, tables } = reading(file, room, rules(layout))?;
+        let word = layout.other().frame_end_word();
+        Ok((plain_form_closed(file, &tokens, &frame_ends, word), tables))
+    });
+    written(plain, room, out)
+}
+
+/// What is answered, and left in tables and an output of these lengths, where this plain
+/// form is to be written and these are the tables of the reading.
+fn written(
+    plain: Result<(Vec<u8>, [Vec<u32>; 5]), Refusal>,
+    room: [usize; 5],
+    out: usize,
+) -> (Written, [Vec<u32>; 5], Vec<u8>) {
+    let fits = plain.and_then(|(plain, tables)| match plain.len() {
+        length if length > MOST_BYTES => Err(Refusal { number: 1, place: 0 }),
+        length if length > out => Err(Refusal { number: 7, place: 6 }),
+        _ => Ok((accepted(&tables), tables, plain)),
     });
     let (answer, tables, mut plain) =
-        written.unwrap_or_else(|refusal| (refused(refusal), Default::default(), Vec::new()));
+        fits.unwrap_or_else(|refusal| (refused(refusal), Default::default(), Vec::new()));
     let answer = Written {
         refusal: answer.refusal,
         place: answer.place,
@@ -768,7 +879,10 @@ pub fn value_number(
 #[cfg(test)]
 mod tests {
     use super::*;
-    use crate::notation::{checked_vectors, escaped, name_vectors, unescaped, vectors, NameVector};
+    use crate::notation::{
+        checked_vectors, escaped, layout_vectors, name_vectors, unescaped, vectors, LayoutVector,
+        NameVector, Vector,
+    };
 
     const ROOM: [usize; 5] = [600; 5];
 
@@ -816,19 +930,139 @@ mod tests {
         let list = vectors(list);
         assert_eq!(list.len(), count, "{name}");
         for vector in list {
-            let (answer, tables) = read(&vector.file, ROOM);
             let shown = format!("{name}, line {}: {}", vector.line, escaped(&vector.file));
-            assert_eq!((answer.refusal, answer.place), (vector.refusal, vector.place), "{shown}");
-            let Counts { tokens, sets, names, packets, values } = answer.counts();
-            assert_eq!([tokens, sets, names, packets, values], vector.counts, "{shown}");
-            for (table, mut rows) in tables.into_iter().zip(vector.tables) {
-                rows.resize(600, 0);
-                assert_eq!(table, rows, "{shown}");
+            let read = read(&vector.file, ROOM);
+            answer_vector(&vector, read, write(&vector.file, ROOM, 900), &shown);
+        }
+    }
+
+    /// The answers of reading, and of writing or conversion, are those of the vector.
+    fn answer_vector(
+        vector: &Vector,
+        (answer, tables): (Reading, [Vec<u32>; 5]),
+        (written, written_tables, mut out): (Written, [Vec<u32>; 5], Vec<u8>),
+        shown: &str,
+    ) {
+        assert_eq!((answer.refusal, answer.place), (vector.refusal, vector.place), "{shown}");
+        let Counts { tokens, sets, names, packets, values } = answer.counts();
+        assert_eq!([tokens, sets, names, packets, values], vector.counts, "{shown}");
+        for (table, rows) in tables.iter().zip(&vector.tables) {
+            let mut rows = rows.clone();
+            rows.resize(600, 0);
+            assert_eq!(table, &rows, "{shown}");
+        }
+        assert_eq!((written.reading(), written_tables), (answer, tables), "{shown}");
+        assert!(out.split_off(written.length as usize).iter().all(|&byte| byte == 0));
+        assert_eq!(out, vector.plain, "{shown}");
+    }
+
+    /// The plain form that conversion writes, none if it refuses.
+    fn converted(file: &[u8], layout: u32) -> Option<Vec<u8>> {
+        let room = words_needed_as(file, Layout::of(layout).expect("a layout"));
+        let (written, _, mut out) = convert(file, layout, room, 2 * file.len() + 1);
+        out.truncate(written.length as usize);
+        (written.refusal == 0).then_some(out)
+    }
+
+    #[test]
+    fn vectors_of_layouts_are_answered() {
+        let list = layout_vectors(include_str!("../../vectors/108.txt"));
+        assert_eq!(list.len(), 68);
+        for LayoutVector { layout, of } in list {
+            let shown = format!("line {}: {layout}, {}", of.line, escaped(&of.file));
+            let read = read_as(&of.file, layout, ROOM);
+            answer_vector(&of, read, convert(&of.file, layout, ROOM, 900), &shown);
+            if of.refusal == 0 {
+                let tokens = tokens(&of.file).expect("an accepted file splits into tokens");
+                let back = converted(&of.plain, 1 - layout).expect("a plain form is accepted");
+                assert_eq!(back, plain_form(&of.file, &tokens), "{shown}");
+                assert_eq!(converted(&back, layout), Some(of.plain), "{shown}");
             }
-            let (written, _, mut out) = write(&vector.file, ROOM, 900);
-            assert_eq!(written.reading(), answer, "{shown}");
-            assert!(out.split_off(written.length as usize).iter().all(|&byte| byte == 0));
-            assert_eq!(out, vector.plain, "{shown}");
+        }
+    }
+
+    /// What closes a save frame in each layout, and what is out of place.
+    #[test]
+    fn known_layouts_are_read() {
+        // refusal and place by today's layout and by that of 1991
+        let ok = (0, 0);
+        for (file, today, of_1991) in [
+            ("data_a save_f save_", ok, (8, 14)),
+            ("data_a save_f stop_", (8, 14), ok),
+            ("data_a save_f loop_ _x 1 2 stop_", (8, 27), ok),
+            ("data_a save_f loop_ _x loop_ _y 1 2 stop_ stop_", (8, 42), ok),
+            ("data_a save_f loop_ _x loop_ _y 1 2 stop_", (8, 41), (8, 41)),
+            ("data_a save_f loop_ _x loop_ _y 1 2 stop_ save_", ok, (8, 42)),
+            ("data_a save_f loop_ _x loop_ _y stop_ 1 stop_ stop_", (8, 46), ok),
+            ("data_a save_f loop_ _x loop_ _y stop_", (8, 37), (8, 37)),
+            ("data_a save_f loop_ _x stop_", (8, 23), (8, 23)),
+            ("data_a save_f loop_ stop_", (8, 20), (8, 20)),
+            ("data_a save_f _x stop_", (8, 17), (8, 17)),
+            ("data_a save_f loop_ _x _y 1 stop_", (10, 28), (10, 28)),
+            ("data_a save_f loop_ _x _y 1 save_", (10, 28), (10, 28)),
+            ("data_a save_f loop_ _x loop_ _y 1 save_", (10, 34), (10, 34)),
+            ("data_a save_f loop_ _x loop_ _y _z 1 2 save_", (10, 39), (10, 39)),
+            ("data_a loop_ _x 1 stop_", (8, 18), (8, 18)),
+            ("data_a loop_ _x loop_ _y 1 stop_ stop_", (8, 33), (8, 33)),
+            ("data_a stop_", (8, 7), (8, 7)),
+            ("stop_", (8, 0), (8, 0)),
+            ("save_", (8, 0), (8, 0)),
+            ("data_a save_f stop_ stop_", (8, 14), (8, 20)),
+            ("data_a save_f stop_ save_f stop_", (8, 14), (9, 20)),
+            ("data_a save_f _x 1 stop_ _x 2", (8, 19), ok),
+            ("global_ save_f stop_ global_ save_f stop_", (8, 15), ok),
+            ("data_a save_f", (8, 13), (8, 13)),
+            ("data_a save_f data_b", (8, 14), (8, 14)),
+            ("data_a loop_ _x loop_ _y 1 stop_", ok, ok),
+        ] {
+            let answer = |layout: u32| {
+                let room = words_needed_as(file.as_bytes(), Layout::of(layout).expect("a layout"));
+                let (reading, _) = read_as(file.as_bytes(), layout, room);
+                (reading.refusal, reading.place)
+            };
+            assert_eq!((answer(0), answer(1)), (today, of_1991), "{file}");
+            assert_eq!(read_as(file.as_bytes(), 0, ROOM), read(file.as_bytes(), ROOM), "{file}");
+        }
+    }
+
+    /// Any other number of a layout is refused before all else, and compared whole.
+    #[test]
+    fn other_layouts_are_refused() {
+        let largest = vec![0; MOST_BYTES + 1];
+        for file in [b"".as_slice(), b"data_a save_f save_", b"data_", &largest] {
+            for layout in [2, 3, 255, 256, 257, 1 << 16, 1 << 31, (1 << 31) | 1, u32::MAX] {
+                for room in [[0; 5], [7; 5]] {
+                    let (reading, tables) = read_as(file, layout, room);
+                    assert_eq!(reading, Reading { refusal: 14, ..Reading::default() });
+                    let (written, written_tables, out) = convert(file, layout, room, 9);
+                    assert_eq!(written, Written { refusal: 14, ..Written::default() });
+                    assert_eq!((&tables, out), (&room.map(|words| vec![0; words]), vec![0; 9]));
+                    assert_eq!(tables, written_tables);
+                }
+            }
+        }
+        assert_eq!(read_as(&largest, 1, [0; 5]).0.refusal, 1);
+    }
+
+    /// Conversion has the writer's refusals, and leaves the tables of the file as read.
+    #[test]
+    fn conversions_are_refused_as_writing_is() {
+        let file = b"data_a save_f _x 1 stop_ # c";
+        let plain = b"data_a\nsave_f\n_x\n1\nsave_\n";
+        let room = words_needed_as(file, Layout::Of1991);
+        let (written, tables, out) = convert(file, 1, room, plain.len());
+        assert_eq!((written.refusal, out.as_slice()), (0, plain.as_slice()));
+        assert_eq!((written.reading(), tables), read_as(file, 1, room));
+        let (written, tables, out) = convert(file, 1, room, plain.len() - 1);
+        assert_eq!(written, Written { refusal: 7, place: 6, ..Written::default() });
+        assert!(tables.iter().flatten().all(|&word| word == 0));
+        assert!(out.iter().all(|&byte| byte == 0));
+        // the plain form over the limit, 1 before 7 at 6; then one byte less
+        let head = b"data_a save_f stop_ _x ";
+        for (bytes, refusal) in [(MOST_BYTES, 1), (MOST_BYTES - 1, 0)] {
+            let file = [head.as_slice(), &vec![b'v'; bytes - head.len()]].concat();
+            assert_eq!(convert(&file, 1, ROOM, 2 * MOST_BYTES).0.refusal, refusal);
+            assert_eq!(convert(&file, 1, ROOM, 0).0.refusal, if refusal == 1 { 1 } else { 7 });
         }
     }
 

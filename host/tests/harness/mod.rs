@@ -4,6 +4,7 @@
 #![allow(dead_code)]
 
 pub mod indexes;
+pub mod layouts;
 
 use std::env;
 use std::fmt::{Debug, Write};
@@ -250,16 +251,7 @@ pub fn read(seed: u64, file: &[u8], spare: [isize; 5]) -> Result<Reading, String
 
 /// Reads a file by both, with tables of these lengths.
 pub fn read_into(seed: u64, file: &[u8], room: [usize; 5]) -> Result<Reading, String> {
-    let rng = &mut Rng::new(seed);
-    let lent_file = lent_bytes(rng, file);
-    let mut tables = room.map(|length| junk_words(rng, length));
-    let answer = star::read(lent_file.range(), lend_mut(&mut tables));
-    let (expected, expected_tables) = reference::read(file, room);
-    let mut differences = Differences::default();
-    differences.answer(&format!("reading into {room:?} words"), answer, expected);
-    differences.tables(&tables, &expected_tables);
-    differences.unchanged("file", &lent_file, file);
-    differences.end(expected)
+    layouts::read_into(seed, file, raw::STAR_LAYOUT_TODAY, room)
 }
 
 /// Writes a file by both, with tables of this many words more, or less, than
@@ -311,7 +303,7 @@ pub fn round_trip(file: &[u8]) -> Result<(), String> {
     }
     let plain = &out[..written.length as usize];
     let mut plain_tables = tables_for();
-    let again = star::read(plain, TablesMut::of(&mut plain_tables));
+    let again = star::read(plain, raw::STAR_LAYOUT_TODAY, TablesMut::of(&mut plain_tables));
     let mut differences = Differences::default();
     differences.answer("reading the plain form back", again, written.reading());
     for table in 1..5 {
@@ -383,7 +375,7 @@ pub fn fits_into(seed: u64, file: &[u8], room: [usize; 5]) -> Result<Checked, St
     differences.tables(&tables, &expected_tables);
     differences.unchanged("file", &lent_file, file);
     let mut read_tables = room.map(|length| vec![7; length]);
-    let reading = star::read(file, TablesMut::of(&mut read_tables));
+    let reading = star::read(file, raw::STAR_LAYOUT_TODAY, TablesMut::of(&mut read_tables));
     let same_words = tables.iter().zip(&read_tables).all(|(one, other)| one.range() == other);
     if answer.reading() != reading || !same_words {
         differences

@@ -3,7 +3,7 @@ use mathlib.Core.Path.{ap}
 use Prim.Native.Nat.{_%_}
 use native.Mathlib.Nat.{mod-lt}
 use borrow.Author.Needs.{needs}
-use Rattle.star_index.specs.Hash.{homeOf}
+use Rattle.star_hash.specs.Hash.{homeOf}
 use Rattle.star_index.proofs.home_of.Statement.{statement}
 use Rattle.star_index.proofs.home_of.Tie as tie
 

@@ -2,7 +2,7 @@
 use mathlib.Core.Path.{sym, _∙_}
 use native.Mathlib.Omega.{arith}
 use borrow.Author.Needs.{needs}
-use Rattle.star_read.proofs.Judging.{place-held, place-over}
+use Rattle.star_read.proofs.Judging.{place-over}
 use Rattle.star_read.proofs.place_of.Statement.{statement}
 use Rattle.star_read.proofs.place_of.Tie as tie
 
@@ -14,7 +14,7 @@ cast-result c = search needs
 
 returns : tie.Need-returns
 returns c =
-    c .first-byte .ensures ∙ place-held _ _ _ (c .before .before .before .before .pre) (c .before .before .before .before .args .before) (omega arith)
+    c .first-byte .ensures ∙ c .before .before .before .before .pre .firsts (c .before .before .before .before .args .before) (omega arith)
 
 returns-2 : tie.Need-returns-2
 returns-2 c = sym (place-over _ _ _ (omega (arith, c .before .before .before .pre .count-is)))

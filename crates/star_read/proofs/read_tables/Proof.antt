@@ -3,15 +3,17 @@ use mathlib.Core.Path.{_≡_, sym, _∙_, ap, subst}
 use borrow.Author.Needs.{needs}
 use lib.ListN.{length}
 use Rattle.star_text.specs.Outcome.{accepted, then}
-use Rattle.star_lex.specs.Rules.{today}
+use Rattle.star_lex.specs.Rules.{layoutRules}
 use Rattle.star_lex.specs.Split.{placed, tokensOf}
 use Rattle.star_grammar.specs.Tables.{noRows}
 use Rattle.star_grammar.specs.Machine.{run, start}
 use Rattle.star_parse.specs.Parsed.{FourTables, Answers, fourTables as four}
+use Rattle.star_grammar.specs.Layout.{todayRow}
 use Rattle.star_lex.specs.Holds.{fileTokens}
 use Rattle.star_read.specs.Read.{rowsFit, grammarOf}
 use Rattle.star_read.specs.Answer.{readAnswer}
-use Rattle.star_read.proofs.Settling.{SameSizes, sizesOf, held-run, answer-ran, outcome-refused, outcome-settled, rows-accepted, cleared-held, leaves-refused, accepted-answer, accepted-leaves}
+use Rattle.star_read.proofs.Places.{held-places, put-back}
+use Rattle.star_read.proofs.Settling.{SameSizes, sizesOf, outcome-refused, outcome-settled, rows-accepted, cleared-held, leaves-refused, accepted-answer, accepted-leaves}
 use Rattle.star_read.proofs.read_tables.Statement.{statement}
 use Rattle.star_read.proofs.read_tables.Tie as tie
 
@@ -37,16 +39,8 @@ read-rows-requires c κs = search needs
 
 judge-requires : tie.Need-judge-requires
 judge-requires c κs =
-    let read = c .before .before .before .before .before .before .before .before .before in
-    let at = entry read in
-    let file = at .args .file .now in (
-      at .pre .0,
-      (
-        at .pre .1,
-        answer-ran (run today start (fileTokens file) noRows) (at .args .count) (old read) (new read) (read .read-rows .result)
-            (subst (λ x. Answers (at .args .count) x (old read) (read .read-rows .result) (new read)) (held-run file (at .args .tokens .now) (at .args .count) (at .pre .0)) (read .read-rows .ensures .0)),
-      ),
-    )
+    let at = entry (c .before .before .before .before .before .before .before .before .before) in
+    held-places (at .args .layout) (at .args .file .now) (at .args .tokens .now) (at .args .count) (at .pre .0)
 
 refuse-requires : tie.Need-refuse-requires
 refuse-requires c κs = search needs
@@ -83,7 +77,7 @@ returns c =
     let judged = refused-at refused in
     let read = rows-read judged in
     let at = entry read in
-    let o = outcome-refused (at .args .file .now) (at .args .tokens .now) (at .args .count) (at .pre .0) (old read) (new read) (same read) (read .read-rows .result) (read .read-rows .ensures .0) (judged .judge .result) (judged .judge .ensures) (refused .before .before .before .before .before .before .if1 .taken) in
+    let o = outcome-refused (at .args .layout) (at .args .file .now) (at .args .tokens .now) (at .args .count) (at .pre .0) (old read) (new read) (same read) (read .read-rows .result) (read .read-rows .ensures .0) (at .args .taken) (at .pre .1) (judged .judge .result) (judged .judge .ensures) (refused .before .before .before .before .before .before .if1 .taken) in
     record { answer = refused .refuse .ensures .answer ∙ sym (ap readAnswer o); leaves = leaves-refused (at .args .tokens .now) (old read) (new read) (same read) _ _ _ o (refused .refuse .ensures .leaves) }
 
 clear-behind-requires : tie.Need-clear-behind-requires
@@ -104,23 +98,28 @@ same-length-9 c = search needs
 same-length-10 : tie.Need-same-length-10
 same-length-10 c = search needs
 
+from-today-requires : tie.Need-from-today-requires
+from-today-requires c κs = search needs
+
 returns-2 : tie.Need-returns-2
 unfolding grammarOf
 returns-2 c =
-    let cleared = c .before .before .before .before .before .before .before .before in
+    let turned = c .before .before in
+    let cleared = turned .before .before .before .before .before .before .before .before .before .before in
     let judged = cleared .before .before .before .before .before .before .before in
     let read = rows-read judged in
     let at = entry read in
+    let layout = at .args .layout in
     let tokens = at .args .tokens .now in
     let file = at .args .file .now in
     let rows = read .read-rows in
-    let s = outcome-settled file tokens (at .args .count) (at .pre .0) (old read) (new read) (same read) (rows .result) (rows .ensures .0) (judged .judge .result) (judged .judge .ensures) (cleared .before .before .before .before .before .if1 .left) in
-    let a = rows-accepted file tokens (at .args .count) (at .pre .0) (old read) (new read) (same read) (rows .result) (rows .ensures .0) (judged .judge .result) (judged .judge .ensures) (s .rows) (s .is-good) in
+    let s = outcome-settled layout file tokens (at .args .count) (at .pre .0) (old read) (new read) (same read) (rows .result) (rows .ensures .0) (at .args .taken) (at .pre .1) (judged .judge .result) (judged .judge .ensures) (cleared .before .before .before .before .before .if1 .left) in
+    let a = rows-accepted layout file tokens (at .args .count) (at .pre .0) (old read) (new read) (same read) (rows .result) (rows .ensures .0) (at .args .taken) (at .pre .1) (judged .judge .result) (judged .judge .ensures) (s .rows) (s .is-good) in
     let k = cleared-held (at .args .count) (s .rows) (old read) (new read) _ (rows .result) a (cleared .clear-behind .ensures) (s .room .sets) (s .room .names) (s .room .packets) (s .room .values) in
-    let o : then (grammarOf today (length file) (placed (tokensOf file))) (rowsFit (sizesOf (length tokens) (old read))) ≡ accepted (placed (tokensOf file), s .rows) = s .outcome in
+    let o : then (grammarOf (layoutRules layout) (length file) (placed (tokensOf file))) (rowsFit (sizesOf (length tokens) (old read))) ≡ accepted (placed (tokensOf file), s .rows) = s .outcome in
     record {
-      answer = accepted-answer _ (placed (tokensOf file)) (s .rows) (at .args .count) (old read) (new read) (rows .result) o (at .pre .0 .count-is) a;
-      leaves = accepted-leaves _ (placed (tokensOf file)) (s .rows) tokens (old read) _ o (at .pre .0 .rows) k;
+      answer = accepted-answer _ (placed (tokensOf file)) (s .rows) (at .args .count) (old read) (new read) (rows .result) o (at .pre .0 .table .count-is) a;
+      leaves = accepted-leaves _ (placed (tokensOf file)) (s .rows) (length tokens) _ (old read) _ o (turned .from-today .ensures ∙ put-back layout file tokens (at .args .count) (at .pre .0) (s .rows) (s .is-good)) k;
     }
 
 pub read-tables-spec : {M : Type 1} → statement M
@@ -137,6 +136,7 @@ read-tables-spec =
     same-length-5
     returns
     clear-behind-requires
+    from-today-requires
     same-length-6
     same-length-7
     same-length-8

@@ -1,63 +1,60 @@
 -- `unmark` meets its contract: the kinds up to the present row are put back.
 use mathlib.Core.Path.{_≡_, refl, _∙_, ap}
-use Prim.Native.Nat.{_-_, _≤_}
+use Prim.Native.Nat.{_-_, _*_, _≤_, _<_}
 use native.Mathlib.Omega.{arith}
 use borrow.Author.Needs.{needs}
-use lib.ListN.{length, length-set}
-use Rattle.star_unique.specs.Chain.{heldTable}
-use Rattle.star_unique.specs.Marked.{Marked}
+use lib.ListN.{length}
+use Rattle.star_text.specs.Bytes.{mostBytes}
+use Rattle.star_unique.specs.Chain.{unmarked}
 use Rattle.star_lex.proofs.Held.{count-small}
-use Rattle.star_unique.proofs.Unmarking.{marked-room, unmark-one, unmarked}
+use Rattle.star_unique.proofs.Marking.{spans-room}
+use Rattle.star_unique.proofs.Unmarking.{length-unmarked, unmarked-next}
 use Rattle.star_unique.proofs.unmark.Statement.{statement}
 use Rattle.star_unique.proofs.unmark.Tie as tie
 
 abbrev Inv-loop : tie.InvT-loop
-Inv-loop file tokens₀ count rows n₀ tokens n = (n ≤ rows) × Marked file tokens count n rows × (length tokens ≡ length tokens₀)
+Inv-loop file tokens₀ count rows n₀ tokens n = (n ≤ rows) × (tokens ≡ unmarked n tokens₀)
 
 abbrev μ-loop : tie.MeasureT-loop
 μ-loop file tokens₀ count rows n₀ tokens n = rows - n
 
 loop-holds : tie.Need-loop-holds Inv-loop μ-loop
-loop-holds c = (omega arith, c .before .before .pre .0, refl)
+unfolding unmarked
+loop-holds c = (omega arith, refl)
+
+abbrev start : tie.At-loop Inv-loop μ-loop → tie.Start Inv-loop μ-loop
+start c = c .before .before .before
+
+kept : (c : tie.At-loop Inv-loop μ-loop) → length (c .loop .tokens) ≡ length (start c .args .tokens .now)
+kept c = ap length (c .loop .inv .1) ∙ length-unmarked (c .loop .n) (start c .args .tokens .now)
+
+-- the row has its place in the table
+room : (c : tie.At-loop Inv-loop μ-loop) → c .loop .n < start c .args .rows → c .loop .n * 3 < length (c .loop .tokens)
+room c below = rw (kept c) (spans-room _ _ _ (start c .pre .0) _ (omega (arith, start c .pre .1)))
+
+small : (c : tie.At-loop Inv-loop μ-loop) → c .loop .n < start c .args .rows → c .loop .n ≤ mostBytes
+small c below = omega (arith, count-small _ _ _ (start c .pre .0 .table), start c .pre .1)
 
 mul-kind-of : tie.Need-mul-kind-of Inv-loop μ-loop
-mul-kind-of c =
-    let at-loop = c .before in
-    let start = at-loop .before .before .before in
-    omega (arith, marked-room _ _ _ _ _ (at-loop .loop .inv .1) (omega arith) (start .pre .1), count-small _ _ _ (start .pre .0 .spans .table), start .pre .1)
+mul-kind-of c = omega (arith, small (c .before) (omega arith))
 
 mul-kind-of-2 : tie.Need-mul-kind-of-2 Inv-loop μ-loop
-mul-kind-of-2 c =
-    let at-loop = c .before in
-    let start = at-loop .before .before .before in
-    omega (arith, marked-room _ _ _ _ _ (at-loop .loop .inv .1) (omega arith) (start .pre .1), count-small _ _ _ (start .pre .0 .spans .table), start .pre .1)
+mul-kind-of-2 c = omega (arith, small (c .before) (omega arith))
 
 slice-read-kind-of : tie.Need-slice-read-kind-of Inv-loop μ-loop
-slice-read-kind-of c =
-    let at-loop = c .before .before in
-    let start = at-loop .before .before .before in
-    omega (arith, marked-room _ _ _ _ _ (at-loop .loop .inv .1) (omega arith) (start .pre .1), count-small _ _ _ (start .pre .0 .spans .table), start .pre .1)
+slice-read-kind-of c = room (c .before .before) (omega arith)
 
 kind-of-requires : tie.Need-kind-of-requires Inv-loop μ-loop
 kind-of-requires c κs = search needs
 
 mul-tokens : tie.Need-mul-tokens Inv-loop μ-loop
-mul-tokens c =
-    let at-loop = c .before .before .before in
-    let start = at-loop .before .before .before in
-    omega (arith, marked-room _ _ _ _ _ (at-loop .loop .inv .1) (omega arith) (start .pre .1), count-small _ _ _ (start .pre .0 .spans .table), start .pre .1)
+mul-tokens c = omega (arith, small (c .before .before .before) (omega arith))
 
 mul-tokens-2 : tie.Need-mul-tokens-2 Inv-loop μ-loop
-mul-tokens-2 c =
-    let at-loop = c .before .before .before in
-    let start = at-loop .before .before .before in
-    omega (arith, marked-room _ _ _ _ _ (at-loop .loop .inv .1) (omega arith) (start .pre .1), count-small _ _ _ (start .pre .0 .spans .table), start .pre .1)
+mul-tokens-2 c = omega (arith, small (c .before .before .before) (omega arith))
 
 slice-write-tokens : tie.Need-slice-write-tokens Inv-loop μ-loop
-slice-write-tokens c =
-    let at-loop = c .before .before .before in
-    let start = at-loop .before .before .before in
-    omega (arith, marked-room _ _ _ _ _ (at-loop .loop .inv .1) (omega arith) (start .pre .1), count-small _ _ _ (start .pre .0 .spans .table), start .pre .1)
+slice-write-tokens c = room (c .before .before .before) (omega arith)
 
 add-n : tie.Need-add-n Inv-loop μ-loop
 add-n c = omega arith
@@ -66,22 +63,15 @@ loop-less : tie.Need-loop-less Inv-loop μ-loop
 loop-less c = omega arith
 
 loop-again : tie.Need-loop-again Inv-loop μ-loop
-loop-again c =
-    let at = c .before .before .before .loop in
-    let start = c .before .before .before .before .before .before in (
-      omega arith,
-      rw (c .kind-of .ensures) (unmark-one _ _ _ _ _ (at .inv .1) (omega arith) (start .pre .1)),
-      simp length-set (at .inv .2),
-    )
+loop-again c = (omega arith, rw (c .kind-of .ensures) (unmarked-next _ _ _ (c .before .before .before .loop .inv .1)))
 
 same-length : tie.Need-same-length Inv-loop μ-loop
-same-length c = c .before .loop .inv .2
+same-length c = kept (c .before)
 
 returns : tie.Need-returns Inv-loop μ-loop
 returns c =
-    let at = c .before .loop in
-    let end : at .n ≡ c .before .before .before .before .args .rows = omega arith in
-    unmarked _ _ _ _ (rw end at (at .inv .1)) ∙ ap (heldTable (c .before .before .before .before .args .file .now)) (at .inv .2)
+    let end : c .before .loop .n ≡ start (c .before) .args .rows = omega arith in
+    c .before .loop .inv .1 ∙ ap (λ n. unmarked n (start (c .before) .args .tokens .now)) end
 
 pub unmark-spec : {M : Type 1} → statement M
 unmark-spec =

@@ -4,15 +4,14 @@ use Prim.Native.Nat.{ℕ, _+_, _*_, _/_, _%_, _≤_, _<_}
 use native.Mathlib.Omega.{arith}
 use lib.ListN.{getD}
 use borrow.Author.Needs.{needs}
-use Rattle.star_lex.specs.Holds.{tokenAt}
-use Rattle.star_unique.specs.Chain.{nameSort, sortAt, floorOf}
+use Rattle.star_unique.specs.Chain.{nameSort, sortAt, floorOf, kindsIn, tokenBy}
 use Rattle.star_lex.proofs.Held.{count-small}
 use Rattle.star_unique.proofs.Marking.{sort-here, visit-plain, visit-taken, visit-new, follows-from, last-small, sign-small}
 use Rattle.star_unique.proofs.visit.Statement.{statement}
 use Rattle.star_unique.proofs.visit.Tie as tie
 
-sort-is : (c : tie.Start) (sort : ℕ) → sort ≡ nameSort (c .args .scope .inside) (getD (c .args .tokens .now) (c .args .n * 3) 0) → sort ≡ sortAt (tokenAt (c .args .file .now)) (c .args .n)
-sort-is c sort e = e ∙ sort-here _ _ _ _ (c .pre .0) (c .pre .1 .1 .0) _ (c .pre .1 .1 .1)
+sort-is : (c : tie.Start) (sort : ℕ) → sort ≡ nameSort (c .args .scope .inside) (getD (c .args .tokens .now) (c .args .n * 3) 0) → sort ≡ sortAt (tokenBy (c .args .file .now) (kindsIn (c .args .tokens .now))) (c .args .n)
+sort-is c sort e = e ∙ sort-here _ _ _ _ _ (c .pre .0) (c .pre .1 .1 .0) _ (c .pre .1 .1 .1)
 
 mul-sort-of : tie.Need-mul-sort-of
 mul-sort-of c = search needs
@@ -44,7 +43,7 @@ abbrev at-sort : tie.After-hash → tie.After-sort-of
 at-sort c = c .before .before .before .before
 
 -- the sort is that of the token; its sign is small, and so is the last row of its bucket
-sort-right : (c : tie.After-hash) → at-sort c .sort-of .result ≡ sortAt (tokenAt (start c .args .file .now)) (start c .args .n)
+sort-right : (c : tie.After-hash) → at-sort c .sort-of .result ≡ sortAt (tokenBy (start c .args .file .now) (kindsIn (start c .args .tokens .now))) (start c .args .n)
 sort-right c = sort-is (start c) _ (at-sort c .sort-of .ensures)
 
 sign-right : (c : tie.After-hash) → at-sort c .sort-of .result + c .hash .result / 4096 * 16 < 4096

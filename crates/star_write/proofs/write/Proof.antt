@@ -4,13 +4,12 @@ use mathlib.Core.Path.{_≡_, _∙_}
 use borrow.Author.Needs.{needs}
 use lib.ListN.{length}
 use Rattle.star_text.specs.Outcome.{refused}
-use Rattle.star_rows.proofs.Clear.{cleared-whole}
-use Rattle.star_read.specs.Read.{Sizes}
+use Rattle.star_read.specs.Read.{Sizes, readOf}
 use Rattle.star_read.specs.Answer.{tables, sizes, tablesOf}
 use Rattle.star_write.specs.Write.{Writing, writeOf}
 use Rattle.star_write.specs.Answer.{writeAnswer}
 use Rattle.star_read.proofs.Accepted.{read-holds, left-holds}
-use Rattle.star_write.proofs.Outcomes.{writing-refused, Success, success, zeros, refused-tables, refused-output, written-tables, written-output}
+use Rattle.star_write.proofs.Outcomes.{as-long, writing-refused, Success, success, zeros, refused-tables, refused-output, written-tables, written-output}
 use Rattle.star_write.proofs.write.Statement.{statement}
 use Rattle.star_write.proofs.write.Tie as tie
 
@@ -27,14 +26,11 @@ read c = reading (c .before)
 abbrev start : tie.After-answer → tie.Start
 start c = entry (read c)
 
-abbrev emptied : tie.After-slice-known17 → tie.After-clear-bytes
-emptied c = c .before .before
-
-abbrev cleared : tie.After-clear-bytes → tie.After-clear-tables
+abbrev cleared : tie.After-slice-known17 → tie.After-clear-all
 cleared c = c .before .before .before .before .before .before .before .before .before .before .before .before
 
-abbrev refusing : tie.After-clear-tables → tie.Then1
-refusing c = c .before .before .before .before .before .before
+abbrev refusing : tie.After-clear-all → tie.Then1
+refusing c = c .before .before .before .before .before .before .before
 
 abbrev writing : tie.After-put-plain-arg2 → tie.Else1
 writing c = c .before .before .before .before
@@ -51,15 +47,17 @@ outcome c = writeOf (c .args .file .now) (words c) (length (c .args .out .now))
 
 -- the answer is the outcome's: a refusal, or else the file is written
 answered : (c : tie.After-answer) → c .answer .result ≡ writeAnswer (outcome (start c))
-answered c = c .answer .ensures (words (start c)) (read c .read .ensures .answer)
+unfolding writeOf
+answered c = c .answer .ensures _ _ (as-long (start c .args .file .now) (words (start c))) (read c .read .ensures .answer)
 
 refuses : (c : tie.Then1)
     → outcome (start (c .before .before)) ≡ refused (c .before .before .answer .result .refusal) (c .before .before .answer .result .place)
 refuses c = writing-refused _ _ (answered (c .before .before)) (c .if1 .taken)
 
 writes : (c : tie.Else1)
-    → Success (start (c .before .before) .args .file .now) (words (start (c .before .before))) (length (start (c .before .before) .args .out .now)) (c .before .before .answer .result)
-writes c = success _ _ _ _ (answered (c .before .before)) (c .if1 .left)
+    → Success (start (c .before .before) .args .file .now) (readOf (start (c .before .before) .args .file .now) (words (start (c .before .before)))) (λ ts. ts) (length (start (c .before .before) .args .out .now)) (c .before .before .answer .result)
+unfolding writeOf
+writes c = success _ _ _ (as-long (start (c .before .before) .args .file .now) (words (start (c .before .before)))) _ _ (answered (c .before .before)) (c .if1 .left)
 
 read-requires : tie.Need-read-requires
 read-requires c κs = tt
@@ -67,47 +65,33 @@ read-requires c κs = tt
 answer-requires : tie.Need-answer-requires
 answer-requires c κs = read-holds _ (words (entry (reading c))) _ (reading c .read .ensures .answer) _ (reading c .read .ensures .leaves)
 
-clear-tables-requires : tie.Need-clear-tables-requires
-clear-tables-requires c κs = tt
-
-clear-bytes-requires : tie.Need-clear-bytes-requires
-clear-bytes-requires c κs = tt
+clear-all-requires : tie.Need-clear-all-requires
+clear-all-requires c κs = tt
 
 same-length : tie.Need-same-length
-same-length c =
-    let cleared = cleared (emptied c) in
-    cleared .clear-tables .kept .0 ∙ read (refusing cleared .before .before) .read .kept .1 .0
+same-length c = cleared c .clear-all .kept .0 ∙ read (refusing (cleared c) .before .before) .read .kept .1 .0
 
 same-length-2 : tie.Need-same-length-2
-same-length-2 c =
-    let cleared = cleared (emptied c) in
-    cleared .clear-tables .kept .1 .0 ∙ read (refusing cleared .before .before) .read .kept .1 .1 .0
+same-length-2 c = cleared c .clear-all .kept .1 .0 ∙ read (refusing (cleared c) .before .before) .read .kept .1 .1 .0
 
 same-length-3 : tie.Need-same-length-3
-same-length-3 c =
-    let cleared = cleared (emptied c) in
-    cleared .clear-tables .kept .1 .1 .0 ∙ read (refusing cleared .before .before) .read .kept .1 .1 .1 .0
+same-length-3 c = cleared c .clear-all .kept .1 .1 .0 ∙ read (refusing (cleared c) .before .before) .read .kept .1 .1 .1 .0
 
 same-length-4 : tie.Need-same-length-4
-same-length-4 c =
-    let cleared = cleared (emptied c) in
-    cleared .clear-tables .kept .1 .1 .1 .0 ∙ read (refusing cleared .before .before) .read .kept .1 .1 .1 .1 .0
+same-length-4 c = cleared c .clear-all .kept .1 .1 .1 .0 ∙ read (refusing (cleared c) .before .before) .read .kept .1 .1 .1 .1 .0
 
 same-length-5 : tie.Need-same-length-5
-same-length-5 c =
-    let cleared = cleared (emptied c) in
-    cleared .clear-tables .kept .1 .1 .1 .1 .0 ∙ read (refusing cleared .before .before) .read .kept .1 .1 .1 .1 .1 .0
+same-length-5 c = cleared c .clear-all .kept .1 .1 .1 .1 .0 ∙ read (refusing (cleared c) .before .before) .read .kept .1 .1 .1 .1 .1 .0
 
 same-length-6 : tie.Need-same-length-6
-same-length-6 c = emptied c .clear-bytes .kept .0
+same-length-6 c = cleared c .clear-all .kept .1 .1 .1 .1 .1 .0
 
 returns : tie.Need-returns
 unfolding tablesOf
 returns c =
-    let cleared = cleared (emptied c) in
-    let then = refusing cleared in
+    let then = refusing (cleared c) in
     let kept = read (then .before .before) .read .kept in
-    let zero = cleared .clear-tables .ensures 0 0 in
+    let zero = cleared c .clear-all .ensures .0 0 0 in
     record {
       answer = answered (then .before .before);
       leaves = refused-tables (refuses then) (record {
@@ -117,7 +101,7 @@ returns c =
         packets = zeros (kept .1 .1 .1 .1 .0) (zero .packets);
         values = zeros (kept .1 .1 .1 .1 .1 .0) (zero .values);
       });
-      output = refused-output _ (refuses then) (emptied c .clear-bytes .ensures ∙ cleared-whole _);
+      output = refused-output _ (refuses then) (cleared c .clear-all .ensures .1);
     }
 
 cast-put-plain : tie.Need-cast-put-plain
@@ -150,12 +134,15 @@ same-length-12 : tie.Need-same-length-12
 same-length-12 c = put c .put-plain .kept .1 .1 .1 .1 .0
 
 returns-2 : tie.Need-returns-2
+unfolding writeOf
 returns-2 c =
     let w = writing (put c .before) in
+    let start = start (w .before .before) in
+    let long = as-long (start .args .file .now) (words start) in
     record {
       answer = answered (w .before .before);
-      leaves = written-tables (writes w) (read (w .before .before) .read .ensures .leaves);
-      output = written-output (writes w) (put c .put-plain .ensures);
+      leaves = written-tables long (writes w) (read (w .before .before) .read .ensures .leaves);
+      output = written-output long (writes w) (put c .put-plain .ensures);
     }
 
 pub write-spec : {M : Type 1} → statement M
@@ -164,8 +151,7 @@ write-spec =
     (tie.spec
     read-requires
     answer-requires
-    clear-tables-requires
-    clear-bytes-requires
+    clear-all-requires
     same-length
     same-length-2
     same-length-3

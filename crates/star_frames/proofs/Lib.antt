@@ -1,0 +1,4 @@
+pub mod Bounds
+pub mod Closing
+pub mod Retagging
+pub mod Tracking
