@@ -2,3 +2,4 @@ pub mod Bounds
 pub mod Closing
 pub mod Retagging
 pub mod Tracking
+pub mod Layouts

@@ -32,3 +32,11 @@ openKind kind = cond (eqb kind 3) 5 kind
 -- in the first rows of a table what closes a frame is `stop_` again; a table that has not that many rows is as it was
 unfoldable pub openedFrames : (count : ℕ) → List ℕ → List ℕ
 openedFrames count words = cond (hasRows count (length words)) (retagged (λ n. openKind (kindOf words n)) count words) words
+
+-- a table of so many rows of a layout, with the kinds of today's
+unfoldable pub asToday : (layout count : ℕ) → List ℕ → List ℕ
+asToday layout count words = cond (eqb layout 1) (closedFrames count words) words
+
+-- a table of so many rows with the kinds of today's layout, with those of a layout again
+unfoldable pub fromToday : (layout count : ℕ) → List ℕ → List ℕ
+fromToday layout count words = cond (eqb layout 1) (openedFrames count words) words

@@ -4,7 +4,7 @@ ghost use Prim.Native.Nat.{_≤_, _<_};
 ghost use lib.ListN.{take};
 ghost use Rattle.star_text.specs.Bytes.{mostBytes};
 ghost use Rattle.star_grammar.specs.Layout.{outside, isBetween, todayKind, passLoop, passName, passStop, fillOne, passValue, passKind};
-ghost use Rattle.star_frames.specs.Frames.{hasRows, closedFrames, openKind, openedFrames};
+ghost use Rattle.star_frames.specs.Frames.{hasRows, closedFrames, openKind, openedFrames, asToday, fromToday};
 ghost use Rattle.star_frames.specs.Tracked.{trackOf, Tracks, Ready};
 
 // The words of a row of table 1.
@@ -310,5 +310,23 @@ pub fn open_frames(tokens: &mut [u32], count: usize)
             tokens[at] = open_kind(tokens[at]);
             n += 1;
         }
+    }
+}
+
+// Gives so many rows of a layout the kinds of today's: in that of 1991, layout 1, the `stop_` that closes a frame gets the kind of `save_`.
+pub fn to_today(layout: u32, tokens: &mut [u32], count: usize)
+    ensures { λ _. ⌜ now (tokens .exit) ≡ asToday layout count (now (tokens .entry)) ⌝ }
+{
+    if layout == 1 {
+        close_frames(tokens, count);
+    }
+}
+
+// Gives so many rows with the kinds of today's layout those of a layout again.
+pub fn from_today(layout: u32, tokens: &mut [u32], count: usize)
+    ensures { λ _. ⌜ now (tokens .exit) ≡ fromToday layout count (now (tokens .entry)) ⌝ }
+{
+    if layout == 1 {
+        open_frames(tokens, count);
     }
 }

@@ -4,7 +4,7 @@ use mathlib.Core.Bool.{Bool, true, false, cond, _&&_}
 use mathlib.Core.List.{List, [], _∷_, map}
 use Prim.Native.Nat.{ℕ, zero, suc, _+_, _-_, _*_, _≤_, _<_}
 use native.Mathlib.Omega.{arith}
-use borrow.Author.Tests.{eqb-true, eqb-false, eq-eqb, ne-eqb}
+use borrow.Author.Tests.{eqb-true, eqb-false}
 use lib.Dec.{eqb}
 use lib.ListN.{length, getD, length-map}
 use Rattle.star_text.specs.Bytes.{mostBytes}
@@ -28,25 +28,17 @@ use Rattle.star_grammar.proofs.Yields.{row-by}
 use Rattle.star_grammar.proofs.Walking.{good-walks}
 use Rattle.star_grammar.proofs.Formed.{each-fixed}
 use Rattle.star_grammar.proofs.Longest.{run-1991}
-use Rattle.star_frames.specs.Frames.{kindOf, closedFrames, openedFrames}
+use Rattle.star_frames.specs.Frames.{kindOf, closedFrames, openedFrames, asToday, fromToday}
 use Rattle.star_frames.proofs.Retagging.{Retagged}
-use Rattle.star_frames.proofs.Closing.{closed-by, closed-length, open-close}
+use Rattle.star_frames.proofs.Closing.{closed-by, open-close}
+use Rattle.star_frames.proofs.Layouts.{as-length}
 use Rattle.star_parse.specs.Parsed.{kindTokens, rowsRun}
 use Rattle.star_parse.proofs.RunKinds.{run-kinds, run-holding, length-kinds, kind-at, rows-run}
 use Rattle.star_unique.specs.Chain.{heldTable}
-use Rattle.star_unique.specs.Compared.{asToday}
 use Rattle.star_unique.proofs.KindWords.{all-formed}
 use Rattle.star_read.specs.Read.{tokenPlace}
-use Rattle.star_read.specs.Judged.{Places, HoldsToday, fromToday}
+use Rattle.star_read.specs.Judged.{Places, HoldsToday}
 use Rattle.star_read.proofs.Judging.{place-held}
-
-pub from-old : (layout count : ℕ) (words : List ℕ) → layout ≡ 1 → fromToday layout count words ≡ openedFrames count words
-unfolding fromToday
-from-old layout count words e = rw (eq-eqb layout 1 e)
-
-pub from-same : (layout count : ℕ) (words : List ℕ) → (layout ≡ 1 → ⊥) → fromToday layout count words ≡ words
-unfolding fromToday
-from-same layout count words n = rw (ne-eqb layout 1 n)
 
 -- what stands before a content is as long for the kind that a token has today
 opening-today : (t : Track) (k : ℕ) → length (opening (todayKind t k)) ≡ length (opening k)
@@ -175,14 +167,6 @@ module _ (layout : ℕ) (file words : List ℕ) (count : ℕ) (h : HoldsToday la
       by false g = refl
 
 -- the table that splitting and comparing leaves
-as-length : (layout count : ℕ) (words : List ℕ) → length (asToday layout count words) ≡ length words
-unfolding asToday
-as-length layout count words = by (eqb layout 1)
-  where
-    by : (b : Bool) → length (cond b (closedFrames count words) words) ≡ length words
-    by true = closed-length count words
-    by false = refl
-
 pub holds-today : (layout : ℕ) (file : List ℕ) (words : ℕ) (ps : List Placed) → tokensIn file words ≡ accepted ps → (table : List ℕ) (count : ℕ) → count ≡ length ps → length table ≡ words
     → table ≡ asToday layout (length (placed (tokensIn file words))) (tableOf (tokensIn file words) words) → HoldsToday layout file table count
 unfolding placed

@@ -1,9 +1,7 @@
 -- What reading's own functions answer to each other. For contracts of star_read's inner functions.
 use mathlib.Core.Path.{_≡_}
-use mathlib.Core.Bool.{cond}
 use mathlib.Core.List.{List}
 use Prim.Native.Nat.{ℕ, _*_, _≤_, _<_}
-use lib.Dec.{eqb}
 use lib.ListN.{length}
 use Rattle.star_text.specs.Outcome.{Outcome, refusalOf, placeOf}
 use Rattle.star_rows.specs.Widths.{setWidth, nameWidth, packetWidth, valueWidth}
@@ -13,9 +11,8 @@ use Rattle.star_lex.specs.Split.{tokensOf, placed}
 use Rattle.star_lex.specs.Table.{firstByte}
 use Rattle.star_lex.specs.Holds.{Holds}
 use Rattle.star_grammar.specs.Machine.{Run, bad, good}
-use Rattle.star_frames.specs.Frames.{openedFrames}
+use Rattle.star_frames.specs.Frames.{asToday}
 use Rattle.star_unique.specs.Chain.{heldTable}
-use Rattle.star_unique.specs.Compared.{asToday}
 use Rattle.star_parse.specs.Parsed.{FourTables}
 use Rattle.star_parse.specs.declared.Parsed.{Parsed}
 use Rattle.star_read.specs.Read.{tokenPlace}
@@ -31,10 +28,6 @@ pub record Places (file words : List ℕ) (count : ℕ) : Type 0 where
 pub record HoldsToday (layout : ℕ) (file words : List ℕ) (count : ℕ) : Type 0 where
   pub table : Holds file (heldTable file (length words)) count
   pub rows : words ≡ asToday layout count (heldTable file (length words))
-
--- a table of so many rows with the kinds of today's layout, with those of a layout again
-unfoldable pub fromToday : (layout count : ℕ) → List ℕ → List ℕ
-fromToday layout count words = cond (eqb layout 1) (openedFrames count words) words
 
 -- refusal and place of what the grammar and the room decide, both 0 when accepted
 unfoldable pub judgedOf : {A : Type 0} → Outcome A → Judged

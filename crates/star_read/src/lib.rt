@@ -11,7 +11,7 @@ ghost use Rattle.star_unique.specs.Repeat.{nothing, firstRepeat};
 ghost use Rattle.star_text.specs.Outcome.{refused, accepted, then};
 ghost use Rattle.star_read.specs.Read.{tokenPlace, decide, roomFor, rowsFit, grammarOf, readBy};
 ghost use Rattle.star_read.specs.Answer.{tables, sizes, words, Leaves, Gives, Reads, ReadsIn};
-ghost use Rattle.star_read.specs.Judged.{Places, HoldsToday, fromToday, judgedOf, Ran, Numbered, ClearedBehind};
+ghost use Rattle.star_read.specs.Judged.{Places, HoldsToday, judgedOf, Ran, Numbered, ClearedBehind};
 ghost use Rattle.star_parse.specs.Parsed.{fourTables as four};
 use star_parse::Parsed;
 
@@ -180,15 +180,6 @@ fn clear_behind(
     );
 }
 
-// Gives so many rows with the kinds of today's layout those of a layout again.
-fn from_today(layout: u32, tokens: &mut [u32], count: usize)
-    ensures { λ _. ⌜ now (tokens .exit) ≡ fromToday layout count (now (tokens .entry)) ⌝ }
-{
-    if layout == 1 {
-        star_frames::open_frames(tokens, count);
-    }
-}
-
 // Reads the rows of a file whose tokens table 1 holds, with the kinds of today's layout; `taken` of them stand before the first that is taken.
 fn read_tables(
     file: &[u8],
@@ -233,7 +224,7 @@ fn read_tables(
         );
     }
     clear_behind(sets, names, packets, values, rows);
-    from_today(layout, tokens, n);
+    star_frames::from_today(layout, tokens, n);
     Answer {
         refusal: 0,
         place: 0,

@@ -6,7 +6,7 @@ use mathlib.Core.List.{List, [], _∷_}
 use Prim.Native.Nat.{ℕ, zero, suc, _+_, _*_, _≤_, _<_}
 use native.Mathlib.Nat.{zero-add}
 use native.Mathlib.Omega.{arith}
-use borrow.Author.Tests.{eqb-true, eqb-false, eq-eqb, ne-eqb}
+use borrow.Author.Tests.{eqb-true, eqb-false}
 use lib.Dec.{eqb}
 use lib.ListN.{length, getD}
 use Rattle.star_lex.specs.Rules.{today, rules1991, layoutRules}
@@ -15,34 +15,15 @@ use Rattle.star_lex.specs.Holds.{Holds, fileTokens, tokenAt}
 use Rattle.star_lex.proofs.Held.{nowhere, held-row, count-tokens, count-small}
 use Rattle.star_grammar.specs.Layout.{Track, outside, isBetween, todayKind, passKind, todayToken, todayFrom, todayRow, trackAt, todayKindAt}
 use Rattle.star_grammar.proofs.Images.{today-at}
-use Rattle.star_frames.specs.Frames.{hasRows, kindOf, retagged, closedFrames}
+use Rattle.star_frames.specs.Frames.{kindOf, closedFrames, asToday}
 use Rattle.star_frames.proofs.Retagging.{Retagged}
 use Rattle.star_frames.proofs.Closing.{closed-by}
 use Rattle.star_unique.specs.Repeat.{Taken, nothing, isTaken, takes, firstRepeat}
 use Rattle.star_unique.specs.Chain.{heldTable, unmarkedKind, kindsIn, withKinds}
 use Rattle.star_unique.specs.Marked.{Spans, Plain}
-use Rattle.star_unique.specs.Compared.{asToday}
 use Rattle.star_unique.proofs.KindWords.{unmark-small, kind-below, kinds-held}
 use Rattle.star_unique.proofs.Marks.{holds-spans}
 use Rattle.star_unique.proofs.Marking.{holds-plain}
-
-pub as-old : (layout count : ℕ) (words : List ℕ) → layout ≡ 1 → asToday layout count words ≡ closedFrames count words
-unfolding asToday
-as-old layout count words e = rw (eq-eqb layout 1 e)
-
-pub as-same : (layout count : ℕ) (words : List ℕ) → (layout ≡ 1 → ⊥) → asToday layout count words ≡ words
-unfolding asToday
-as-same layout count words n = rw (ne-eqb layout 1 n)
-
--- no rows
-pub as-none : (layout : ℕ) (words : List ℕ) → asToday layout 0 words ≡ words
-unfolding asToday closedFrames retagged
-as-none layout words = by (eqb layout 1) (hasRows 0 (length words))
-  where
-    by : (b c : Bool) → cond b (cond c words words) words ≡ words
-    by true true = refl
-    by true false = refl
-    by false c = refl
 
 -- two rows with the same kinds, and the same contents but for what closes a frame
 data Alike : List Token → List Token → Type 0 where

@@ -1,22 +1,16 @@
 -- What reading the tokens of a file and comparing its names and codes answers, in a layout. For the contract of `read_tokens`.
 use mathlib.Core.Path.{_≡_}
-use mathlib.Core.Bool.{cond}
 use mathlib.Core.List.{List, map}
 use Prim.Native.Nat.{ℕ}
-use lib.Dec.{eqb}
 use lib.ListN.{length}
 use Rattle.star_text.specs.Outcome.{refusalOf, placeOf}
 use Rattle.star_lex.specs.Rules.{layoutRules}
 use Rattle.star_lex.specs.Split.{Split, placed}
 use Rattle.star_lex.specs.Answer.{tokensIn, tableOf}
 use Rattle.star_grammar.specs.Layout.{todayRow}
-use Rattle.star_frames.specs.Frames.{closedFrames}
+use Rattle.star_frames.specs.Frames.{asToday}
 use Rattle.star_unique.specs.Repeat.{nothing, firstRepeat}
 use Rattle.star_unique.specs.declared.Compared.{Compared}
-
--- a table of so many rows of a layout, with the kinds of today's
-unfoldable pub asToday : (layout count : ℕ) → List ℕ → List ℕ
-asToday layout count words = cond (eqb layout 1) (closedFrames count words) words
 
 -- refusal, place and number of tokens; and how many tokens stand before the first that repeats a name or code of its scope
 unfoldable pub comparedOf : (layout : ℕ) → Split → Compared

@@ -11,7 +11,7 @@ ghost use Rattle.star_unique.specs.Repeat.{nothing, firstRepeat};
 ghost use Rattle.star_lex.specs.Holds.{fileTokens, tokenAt};
 ghost use Rattle.star_unique.specs.Chain.{nameSort, floorOf, opensBlock, isValueKind, passed, scopeAt, hashOf, bucketOf, signOf, bucketAt, latest, earlier, unmarkedKind, kindsIn, unmarked, tokenBy, withKinds};
 ghost use Rattle.star_unique.specs.Marked.{Spans, Plain, Marked, Heads, Visited};
-ghost use Rattle.star_unique.specs.Compared.{asToday, Compares};
+ghost use Rattle.star_unique.specs.Compared.{Compares};
 
 // The words of a row of table 1.
 const WIDTH: usize = star_rows::TOKEN_WIDTH as usize;
@@ -278,15 +278,6 @@ pub struct Compared {
     pub taken: usize,
 }
 
-// Gives so many rows of a layout the kinds of today's: in the 1991 layout the `stop_` that closes a frame gets that of `save_`.
-fn to_today(layout: u32, tokens: &mut [u32], count: usize)
-    ensures { λ _. ⌜ now (tokens .exit) ≡ asToday layout count (now (tokens .entry)) ⌝ }
-{
-    if layout == 1 {
-        star_frames::close_frames(tokens, count);
-    }
-}
-
 // Splits a file into tokens, stores them as table 1, with the kinds of today's layout, and looks for the first that repeats a name or code; on a refusal every word of the table is 0.
 pub fn read_tokens(file: &[u8], layout: u32, table: &mut [u32]) -> Compared
     ensures { λ r. ⌜ Compares layout (now (file .entry)) (now (table .entry)) (now (table .exit)) r ⌝ }
@@ -301,7 +292,7 @@ pub fn read_tokens(file: &[u8], layout: u32, table: &mut [u32]) -> Compared
         };
     }
     let count = found.count;
-    to_today(layout, table, count as usize);
+    star_frames::to_today(layout, table, count as usize);
     let taken = first_repeat(file, table, count as usize);
     Compared {
         refusal: 0,

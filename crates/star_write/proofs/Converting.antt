@@ -23,7 +23,7 @@ use Rattle.star_grammar.proofs.Rest.{Fixed}
 use Rattle.star_grammar.proofs.Formed.{each-fixed}
 use Rattle.star_grammar.proofs.Images.{row-fixed, row-length}
 use Rattle.star_frames.specs.Frames.{kindOf}
-use Rattle.star_read.specs.Read.{Sizes, tokensOnly, readIn}
+use Rattle.star_read.specs.Read.{Sizes, readIn}
 use Rattle.star_read.proofs.InLayout.{layout-usable, in-accepted}
 use Rattle.star_read.proofs.Demand3.{rows-of-reading}
 use Rattle.star_read.proofs.Accepted.{number-in, tokens-are}

@@ -1,23 +1,21 @@
 -- Rows of today's layout in two layouts: their plain forms differ in the words that close frames, which stand in the same places.
 use mathlib.Core.Path.{_≡_, refl, sym, _∙_, ap, subst}
 use mathlib.Core.Bool.{Bool, true, false, cond}
-use mathlib.Core.List.{List, [], _∷_, _++_, map, flatMap, append-nil, append-assoc}
+use mathlib.Core.List.{List, [], _∷_, _++_, map, flatMap, append-assoc}
 use Prim.Native.Nat.{ℕ, zero, suc, _+_, _≤_, _<_}
-use native.Mathlib.Nat.{add-zero}
 use native.Mathlib.Omega.{arith}
-use borrow.Author.Tests.{eqb-true, eqb-false, eq-eqb, ne-eqb}
+use borrow.Author.Tests.{eqb-true, eqb-false}
 use lib.Dec.{eqb}
 use lib.ListN.{length, getD, take, drop, length-append, length-map, length-take, take-append-drop}
-use lib.Seq.{take-at, drop-at, take-all}
+use lib.Seq.{drop-at, take-all}
 use Rattle.star_text.proofs.Cases.{cond-by}
 use Rattle.star_lex.specs.Rules.{Rules, today}
 use Rattle.star_lex.specs.Tokens.{Token, Each, opening, saveWord, stopWord}
-use Rattle.star_lex.specs.Split.{starts}
 use Rattle.star_lex.specs.Plain.{closing, indent, plainToken, plainBy, plainOf}
 use Rattle.star_lex.proofs.Formed.{WellFormed}
 use Rattle.star_lex.proofs.Formed as Formed
 use Rattle.star_lex.proofs.Each.{each-at}
-use Rattle.star_grammar.specs.Tree.{frameEnd, stop, frameClose}
+use Rattle.star_grammar.specs.Tree.{frameEnd, stop}
 use Rattle.star_grammar.specs.Layout.{oldToken, oldRow, layoutRow}
 use Rattle.star_grammar.proofs.Rest.{Fixed}
 use Rattle.star_grammar.proofs.Layouts.{old-end, old-stays}

@@ -4,13 +4,12 @@ use mathlib.Core.Bool.{true}
 use mathlib.Core.List.{List}
 use Prim.Native.Nat.{ℕ, _-_, _≤_}
 use native.Mathlib.Omega.{arith}
-use lib.ListN.{length}
 use Rattle.star_text.proofs.Cases.{cond-by}
 use lib.Dec.{eqb}
 use Rattle.star_lex.specs.Rules.{Rules, today, rules1991, layoutRules}
-use Rattle.star_lex.specs.Tokens.{Token, Each}
+use Rattle.star_lex.specs.Tokens.{Token}
 use Rattle.star_lex.proofs.Each.{each-implies}
-use Rattle.star_grammar.specs.Tree.{frameEnd, frameClose, Loop, LoopBy, Entry, item, looped, EntryBy, Frame, FrameBy, Member, own, framed, MemberBy, Block, BlockBy, File, fileYield, FileBy}
+use Rattle.star_grammar.specs.Tree.{frameClose, Loop, LoopBy, Entry, item, looped, EntryBy, Member, own, framed, MemberBy, Block, BlockBy, File, fileYield, FileBy}
 use Rattle.star_grammar.specs.Layout.{todayRow, layoutRow}
 use Rattle.star_grammar.specs.Reading.{ReadingBy}
 use Rattle.star_grammar.proofs.Yields.{tree-row, tree-today, yield-by}

@@ -1,7 +1,7 @@
 -- Table 1 with the kinds of today's layout: its kinds are those of the file's tokens as today's, its spans are the file's, and its own kinds come back.
-use mathlib.Core.Path.{_≡_, refl, sym, _∙_, ap}
+use mathlib.Core.Path.{_≡_, refl, _∙_}
 use mathlib.Core.Bool.{Bool, true, false, cond}
-use mathlib.Core.List.{List, [], map}
+use mathlib.Core.List.{List, []}
 use Prim.Native.Nat.{ℕ, _+_, _*_, _≤_, _<_}
 use native.Mathlib.Omega.{arith}
 use lib.Dec.{eqb}
@@ -15,10 +15,9 @@ use Rattle.star_lex.specs.Holds.{Holds, fileTokens, tokenAt}
 use Rattle.star_lex.proofs.Held.{held-row, held-content, count-tokens, count-small}
 use Rattle.star_grammar.specs.Layout.{outside, todayFrom, todayRow}
 use Rattle.star_grammar.proofs.Images.{today-at}
-use Rattle.star_frames.specs.Frames.{kindOf, closedFrames, openedFrames}
-use Rattle.star_frames.proofs.Retagging.{Retagged}
+use Rattle.star_frames.specs.Frames.{kindOf, closedFrames, openedFrames, asToday, fromToday}
 use Rattle.star_frames.proofs.Closing.{closed-by, open-close}
-use Rattle.star_write.specs.Convert.{todayTable, layoutTable, HoldsToday}
+use Rattle.star_write.specs.Convert.{HoldsToday}
 
 -- a token that is none
 abbrev pub none : Token
@@ -42,8 +41,8 @@ module _ (file table : List ℕ) (count : ℕ) (h : Holds file table count) wher
         ends = k .ends;
       }
 
-  turned : (layout : ℕ) → Turned (todayRow (layoutRules layout) (fileTokens file)) count table (todayTable layout count table)
-  unfolding todayRow todayTable layoutRules
+  turned : (layout : ℕ) → Turned (todayRow (layoutRules layout) (fileTokens file)) count table (asToday layout count table)
+  unfolding todayRow asToday layoutRules
   turned layout = by (eqb layout 1)
     where
       by : (b : Bool) → Turned (todayRow (cond b rules1991 today) (fileTokens file)) count table (cond b (closedFrames count table) table)
@@ -72,8 +71,8 @@ module _ (layout : ℕ) (file words : List ℕ) (count : ℕ) (h : HoldsToday la
       rw (turned-today .size, turned-today .starts n, turned-today .ends n) (held-content file (h .table) count (h .holds) n l)
 
 -- the kinds come back
-pub table-back : (layout count : ℕ) (words : List ℕ) → (layout ≡ 1 → (m : ℕ) → m < count → kindOf words m ≡ 3 → ⊥) → layoutTable layout count (todayTable layout count words) ≡ words
-unfolding layoutTable todayTable
+pub table-back : (layout count : ℕ) (words : List ℕ) → (layout ≡ 1 → (m : ℕ) → m < count → kindOf words m ≡ 3 → ⊥) → fromToday layout count (asToday layout count words) ≡ words
+unfolding fromToday asToday
 table-back layout count words f = by (eqb layout 1) refl
   where
     by : (b : Bool) → eqb layout 1 ≡ b → cond b (openedFrames count (cond b (closedFrames count words) words)) (cond b (closedFrames count words) words) ≡ words

@@ -1,4 +1,4 @@
--- Table 1 and the output while a file is converted: the kinds of today's layout, and the words that close frames. For contracts of star_write's inner functions.
+-- What writing's inner functions are told of a reading and of what is written, and table 1 while a file is converted: the kinds of today's layout, and the words that close frames. For contracts of star_write's inner functions.
 use mathlib.Core.Path.{_≡_}
 use mathlib.Core.Bool.{cond}
 use mathlib.Core.List.{List, []}
@@ -12,7 +12,7 @@ use Rattle.star_lex.specs.Plain.{plainOf}
 use Rattle.star_lex.specs.Holds.{Holds, fileTokens}
 use Rattle.star_grammar.specs.Tree.{frameClose}
 use Rattle.star_grammar.specs.Tables.{Rows}
-use Rattle.star_frames.specs.Frames.{closedFrames, openedFrames}
+use Rattle.star_frames.specs.Frames.{asToday}
 use Rattle.star_read.specs.Read.{ReadOutcome, tokensOnly}
 use Rattle.star_write.specs.Write.{Writing, plainFits}
 
@@ -30,15 +30,8 @@ pub record AsLong (file : List ℕ) (o : ReadOutcome) (row : List Token → List
 unfoldable pub otherClose : (layout kind : ℕ) → List ℕ
 otherClose layout kind = cond (eqb kind 3) (frameClose (layoutRules (1 - layout)) .content) []
 
--- table 1 in a layout with the kinds of today's, and back
-unfoldable pub todayTable : (layout count : ℕ) → List ℕ → List ℕ
-todayTable layout count words = cond (eqb layout 1) (closedFrames count words) words
-
-unfoldable pub layoutTable : (layout count : ℕ) → List ℕ → List ℕ
-layoutTable layout count words = cond (eqb layout 1) (openedFrames count words) words
-
 -- the words are table 1 of a file, with the kinds of today's layout
 pub record HoldsToday (layout : ℕ) (file words : List ℕ) (count : ℕ) : Type 0 where
   pub table : List ℕ
   pub holds : Holds file table count
-  pub today : words ≡ todayTable layout count table
+  pub today : words ≡ asToday layout count table

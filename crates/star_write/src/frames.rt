@@ -12,7 +12,7 @@ ghost use Rattle.star_grammar.specs.Tree.{frameClose};
 ghost use Rattle.star_grammar.specs.Reading.{ReadingBy};
 ghost use Rattle.star_write.specs.Put.{Put};
 ghost use Rattle.star_write.specs.Write.{otherRow};
-ghost use Rattle.star_write.specs.Convert.{otherClose, todayTable, layoutTable, HoldsToday};
+ghost use Rattle.star_write.specs.Convert.{otherClose, HoldsToday};
 
 // The words of a row of table 1.
 const WIDTH: usize = star_rows::TOKEN_WIDTH as usize;
@@ -61,24 +61,6 @@ fn put_closes(file: &[u8], layout: u32, tokens: &[u32], count: usize, out: &mut 
     }
 }
 
-// Gives table 1 of a file in this layout the kinds of today's.
-fn close_kinds(layout: u32, tokens: &mut [u32], count: usize)
-    ensures { λ _. ⌜ now (tokens .exit) ≡ todayTable layout count (now (tokens .entry)) ⌝ }
-{
-    if layout == 1 {
-        star_frames::close_frames(tokens, count);
-    }
-}
-
-// Puts the kinds of this layout back.
-fn open_kinds(layout: u32, tokens: &mut [u32], count: usize)
-    ensures { λ _. ⌜ now (tokens .exit) ≡ layoutTable layout count (now (tokens .entry)) ⌝ }
-{
-    if layout == 1 {
-        star_frames::open_frames(tokens, count);
-    }
-}
-
 // Exchanges the words that close frames in the plain form of a file in this layout, with which the output begins and whose tokens table 1 holds; the table is left as it was.
 pub(crate) fn exchange(file: &[u8], layout: u32, tokens: &mut [u32], count: usize, out: &mut [u8])
     requires { ⌜ Holds (now file) (now tokens) count ⌝ }
@@ -88,7 +70,7 @@ pub(crate) fn exchange(file: &[u8], layout: u32, tokens: &mut [u32], count: usiz
         ++ drop (length (plainOf (fileTokens (now (file .entry))))) (now (out .entry)) ⌝ }
     ensures { λ _. ⌜ now (tokens .exit) ≡ now (tokens .entry) ⌝ }
 {
-    close_kinds(layout, tokens, count);
+    star_frames::to_today(layout, tokens, count);
     put_closes(file, layout, tokens, count, out);
-    open_kinds(layout, tokens, count);
+    star_frames::from_today(layout, tokens, count);
 }

@@ -12,12 +12,14 @@ use Rattle.star_lex.specs.Holds.{Holds, fileTokens}
 use Rattle.star_lex.proofs.Answers.{answer-refused, in-accepted}
 use Rattle.star_grammar.specs.Layout.{todayRow}
 use Rattle.star_unique.specs.Repeat.{nothing, firstRepeat}
+use Rattle.star_frames.specs.Frames.{asToday}
+use Rattle.star_frames.proofs.Layouts.{as-none}
 use Rattle.star_unique.specs.Chain.{kindsIn, withKinds}
 use Rattle.star_unique.specs.Marked.{Plain}
-use Rattle.star_unique.specs.Compared.{asToday, comparedOf}
+use Rattle.star_unique.specs.Compared.{comparedOf}
 use Rattle.star_unique.specs.declared.Compared.{Compared}
 use Rattle.star_lex.proofs.Held.{accepted-tokens, table-holds}
-use Rattle.star_unique.proofs.Today.{as-none, today-plain, today-repeat}
+use Rattle.star_unique.proofs.Today.{today-plain, today-repeat}
 use Rattle.star_unique.proofs.Comparing.{none-taken}
 use borrow.Author.Needs.{needs}
 use Rattle.star_unique.proofs.read_tokens.Statement.{statement}

@@ -1,13 +1,13 @@
 -- `put_closes` meets its contract: the output begins with the plain form of the tokens passed, in the other layout, and goes on as it was.
-use mathlib.Core.Path.{_≡_, refl, sym, _∙_, ap, subst}
+use mathlib.Core.Path.{_≡_, refl, _∙_}
 use mathlib.Core.List.{flatMap}
-use Prim.Native.Nat.{_+_, _-_, _*_, _≤_, _<_}
+use Prim.Native.Nat.{_-_, _*_, _≤_, _<_}
 use native.Mathlib.Omega.{arith}
-use borrow.Author.Needs.{needs}
-use lib.ListN.{length, getD, take, drop}
-use Rattle.star_lex.specs.Plain.{plainBy}
+use lib.ListN.{length, getD}
+use Rattle.star_lex.specs.Rules.{today}
+use Rattle.star_lex.specs.Plain.{plainToken, plainBy}
 use Rattle.star_lex.specs.Holds.{fileTokens}
-use Rattle.star_write.specs.Put.{Filled}
+use Rattle.star_write.specs.Put.{tokenOf, Filled}
 use Rattle.star_write.specs.Write.{otherRow}
 use Rattle.star_write.proofs.Putting.{fill-none}
 use Rattle.star_write.proofs.Prefix.{plainFirst}
@@ -62,10 +62,15 @@ put-close-requires c κs =
 token-length-requires : tie.Need-token-length-requires Inv-loop μ-loop
 token-length-requires c κs = tt
 
+-- its length
+sized : (c : tie.After-token-length Inv-loop μ-loop)
+    → c .token-length .result ≡ length (plainToken today (tokenOf (getD (c .before .before .before .before .before .before .before .before .before .before .before .before .args .tokens .now) (c .before .before .before .before .before .before .before .before .loop .n * 3) 0) (c .before .before .before .before .before .content .result .now)))
+sized c = c .token-length .ensures
+
 add-at : tie.Need-add-at Inv-loop μ-loop
 add-at c =
     let content = c .before .before .before .before .before in
-    omega (arith, swapping content .within, content .before .before .before .loop .inv .1 .counts, c .token-length .ensures)
+    omega (arith, swapping content .within, content .before .before .before .loop .inv .1 .counts, sized c)
 
 add-n : tie.Need-add-n Inv-loop μ-loop
 add-n c = omega arith
@@ -79,7 +84,7 @@ loop-again c =
     let turned = content .before .before .before .loop in
     let put = c .before .before .before .put-close in (
       omega arith,
-      rw (c .token-length .ensures) (swapping content .turn _ _ _ _ (turned .inv .1) (put .ensures)),
+      rw (sized c) (swapping content .turn _ _ _ _ (turned .inv .1) (put .ensures)),
       put .kept .0 ∙ turned .inv .2,
     )
 

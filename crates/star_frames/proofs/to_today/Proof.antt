@@ -2,9 +2,9 @@
 use mathlib.Core.Path.{_≡_, sym, _∙_}
 use native.Mathlib.Omega.{arith}
 use borrow.Author.Needs.{needs}
-use Rattle.star_unique.proofs.Today.{as-old, as-same}
-use Rattle.star_unique.proofs.to_today.Statement.{statement}
-use Rattle.star_unique.proofs.to_today.Tie as tie
+use Rattle.star_frames.proofs.Layouts.{as-old, as-same}
+use Rattle.star_frames.proofs.to_today.Statement.{statement}
+use Rattle.star_frames.proofs.to_today.Tie as tie
 
 close-frames-requires : tie.Need-close-frames-requires
 close-frames-requires c κs = search needs

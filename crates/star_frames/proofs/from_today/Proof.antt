@@ -2,9 +2,9 @@
 use mathlib.Core.Path.{_≡_, sym, _∙_}
 use native.Mathlib.Omega.{arith}
 use borrow.Author.Needs.{needs}
-use Rattle.star_read.proofs.Places.{from-old, from-same}
-use Rattle.star_read.proofs.from_today.Statement.{statement}
-use Rattle.star_read.proofs.from_today.Tie as tie
+use Rattle.star_frames.proofs.Layouts.{from-old, from-same}
+use Rattle.star_frames.proofs.from_today.Statement.{statement}
+use Rattle.star_frames.proofs.from_today.Tie as tie
 
 open-frames-requires : tie.Need-open-frames-requires
 open-frames-requires c κs = search needs
