@@ -14,7 +14,6 @@ use Rattle.star_grammar.proofs.Sorts.{onward, run-onward}
 use Rattle.star_grammar.proofs.Sane.{sane-kept}
 use Rattle.star_grammar.proofs.Complete.{complete}
 use Rattle.star_grammar.proofs.Sound.{no-packet, set-blocks, set-end, heading-name, heading-value, step-back, bad-good}
-use Rattle.star_grammar.proofs.Accepts.{Good, accepts}
 
 -- what a step leads to, in a walk
 abbrev pub walkOn : (rules : Rules) → List Token → Step → Step

@@ -1,19 +1,18 @@
 -- A row in the layout of the rules as one of today's, token by token: what each token is there depends on those before it alone. A first part, one token more, more levels.
 use mathlib.Core.Path.{_≡_, refl, sym, ap, _∙_, subst}
 use mathlib.Core.Bool.{Bool, true, false, cond, _&&_}
-use mathlib.Core.List.{List, [], _∷_, _++_, map}
+use mathlib.Core.List.{List, [], _∷_, _++_}
 use Prim.Native.Nat.{ℕ, zero, suc, _+_, _≤_, _<_}
 use native.Mathlib.Omega.{arith}
 use lib.Dec.{eqb}
 use lib.ListN.{length, getD, take}
 use lib.Seq.{take-suc}
-use borrow.Author.Tests.{eqb-true, eqb-false, ne-eqb}
+use borrow.Author.Tests.{eqb-true, ne-eqb}
 use Rattle.star_lex.specs.Rules.{Rules, atLevels}
 use Rattle.star_lex.specs.Tokens.{Token, Each, saveWord, loopWord, stopWord}
 use Rattle.star_grammar.specs.Tables.{Rows, noRows}
-use Rattle.star_grammar.specs.Machine.{Sort, sortOf, State, start, Step, go, refuse, stepAt, walk}
+use Rattle.star_grammar.specs.Machine.{sortOf, State, start, Step, go, refuse, stepAt, walk}
 use Rattle.star_grammar.specs.Layout.{Track, outside, isBetween, todayKind, passKind, todayToken, todayFrom, todayRow, trackAt, todayKindAt}
-use Rattle.star_grammar.specs.Tree.{IsName}
 use Rattle.star_grammar.proofs.Rest.{Fixed}
 use Rattle.star_grammar.proofs.Alive.{walkOn, walk-on, refuse-go}
 use Rattle.star_grammar.proofs.Walking.{Walks}

@@ -1,24 +1,21 @@
 -- Rows of the two layouts: a row that today's machine takes goes into the 1991 layout and back to itself, and so does a row of 1991 whose image it takes. So a tree's yield in the layout of the rules is the
 -- row exactly when its yield today is the row's image.
 use mathlib.Core.Path.{_≡_, refl, sym, ap, _∙_, subst}
-use mathlib.Core.Bool.{Bool, true, false, cond, _&&_, _||_}
-use mathlib.Core.List.{List, [], _∷_, _++_, map, map-append, flatMap}
-use Prim.Native.Nat.{ℕ, zero, suc, _≤_}
-use native.Mathlib.Omega.{arith}
+use mathlib.Core.Bool.{Bool, true, false, cond, _&&_}
+use mathlib.Core.List.{List, [], _∷_}
+use Prim.Native.Nat.{ℕ}
 use lib.Dec.{eqb}
-use lib.ListN.{length, length-map, replicate}
 use borrow.Author.Tests.{eqb-true, eqb-false, eq-eqb, ne-eqb}
-use Rattle.star_lex.specs.Rules.{Rules, atLevels}
+use Rattle.star_lex.specs.Rules.{Rules}
 use Rattle.star_lex.specs.Tokens.{Token, Each, saveWord, stopWord}
 use Rattle.star_text.proofs.Cases.{impossible, cond-by}
-use Rattle.star_grammar.specs.Tables.{Rows, noRows}
-use Rattle.star_grammar.specs.Machine.{Sort, sortOf, State, start, Step, go, refuse, step, stepAt, walk}
-use Rattle.star_grammar.specs.Layout.{Track, outside, isBetween, todayKind, passSort, passKind, todayToken, todayFrom, todayRow, oldToken, oldRow}
-use Rattle.star_grammar.specs.Tree.{frameEnd, stop, frameClose}
+use Rattle.star_grammar.specs.Tables.{Rows}
+use Rattle.star_grammar.specs.Machine.{Sort, sortOf, State, Step, go, refuse, step, stepAt, walk}
+use Rattle.star_grammar.specs.Layout.{Track, isBetween, todayKind, passSort, passKind, todayToken, todayFrom, oldToken, oldRow}
+use Rattle.star_grammar.specs.Tree.{frameEnd, stop}
 use Rattle.star_grammar.proofs.Rest.{Fixed}
 use Rattle.star_grammar.proofs.Sane.{Taken, both-left, both-right}
 use Rattle.star_grammar.proofs.Alive.{walkOn, walk-on, refuse-go, walk-induction}
-use Rattle.star_grammar.proofs.Walking.{Walks}
 use Rattle.star_grammar.proofs.Tracking.{tracked, step-tracked, end-taken, stop-taken, global-taken}
 
 -- a `save_` alone has that word

@@ -1,16 +1,16 @@
 -- What is tracked of a row in the 1991 layout is what a state of the machine has of it: whether a frame is open, the part of a loop, the numbers of names of its levels, the level and the values of its
 -- packet. A step that is taken leads from what one state has to what the next has.
-use mathlib.Core.Path.{_≡_, refl, sym, ap, _∙_}
-use mathlib.Core.Bool.{Bool, true, false, cond, _&&_}
+use mathlib.Core.Path.{_≡_, refl, ap, _∙_}
+use mathlib.Core.Bool.{Bool, true, false, _&&_}
 use mathlib.Core.List.{List, [], _∷_, _++_, map, reverseAux}
-use Prim.Native.Nat.{ℕ, zero, suc, _+_, _-_, _<_}
+use Prim.Native.Nat.{ℕ, zero, suc, _+_, _-_}
 use native.Mathlib.Omega.{arith}
 use lib.Dec.{eqb, ltb}
 use lib.ListN.{length, getD, set, length-map, length-reverseAux}
 use borrow.Author.Tests.{lt-ltb, le-ltb, ne-eqb}
 use Rattle.star_lex.specs.Rules.{Rules}
 use Rattle.star_grammar.specs.Tables.{Rows, pass}
-use Rattle.star_grammar.specs.Machine.{Sort, Where, inBlock, inFrame, Level, State, start, within, named, header, body, Step, go, refuse, between, filled, fill, valueAt, begin, headerStep, noValue, noValueAt, bodyStep, startStep, namedStep, step}
+use Rattle.star_grammar.specs.Machine.{Sort, Where, inBlock, inFrame, Level, State, start, within, named, header, body, go, between, filled, fill, valueAt, begin, headerStep, noValue, noValueAt, bodyStep, startStep, namedStep, step}
 use Rattle.star_grammar.specs.Layout.{Track, track, outside, isBetween, passLoop, oneMore, passName, passStop, fillOne, passValue, passSort}
 use Rattle.star_grammar.proofs.Sane.{Taken, taken-cond, cond-case}
 

@@ -7,7 +7,7 @@ use Prim.Native.Nat.{ℕ, zero, suc}
 use native.Mathlib.Omega.{arith}
 use lib.ListN.{length, replicate}
 use Rattle.star_lex.specs.Rules.{Rules}
-use Rattle.star_lex.specs.Tokens.{Token, Each, saveWord}
+use Rattle.star_lex.specs.Tokens.{Token, Each}
 use Rattle.star_lex.proofs.Each.{each-append}
 use Rattle.star_grammar.specs.Tables.{noRows}
 use Rattle.star_grammar.specs.Machine.{start}

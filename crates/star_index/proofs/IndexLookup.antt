@@ -9,7 +9,6 @@ use borrow.Author.Tests.{eqb-true}
 use lib.Dec.{eqb}
 use lib.ListN.{length, getD, List·getD-map}
 use Rattle.star_text.specs.Outcome.{accepted}
-use Rattle.star_text.specs.Names.{key}
 use Rattle.star_rows.specs.Rows.{wordOf, holding}
 use Rattle.star_rows.proofs.Words.{word-held}
 use Rattle.star_lex.specs.Tokens.{Placed, tokenRow}

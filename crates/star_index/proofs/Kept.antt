@@ -25,7 +25,7 @@ use Rattle.star_read.proofs.InLayout.{in-today}
 use Rattle.star_read.proofs.Accepted.{accepted-holds, answer-refused, answer-accepted}
 use Rattle.star_find.proofs.After.{token-content, RowsAfter, reading-in, rows-after}
 use Rattle.star_index.specs.Index.{rowHome, isIndexed, checkOf, filled, built, buildOf, slotsOf}
-use Rattle.star_index.specs.Inner.{mark, tableHome, Unmarked}
+use Rattle.star_index.specs.Inner.{tableHome, Unmarked}
 use Rattle.star_index.proofs.Indexing.{indexed-alike}
 use Rattle.star_index.proofs.Filling.{filled-alike}
 use Rattle.star_index.proofs.Exactly.{isIndexOf, check-read, check-refused}

@@ -5,11 +5,10 @@ use mathlib.Core.List.{List, [], _∷_}
 use mathlib.Core.Option.{Option, none, some, Option·map}
 use Prim.Native.Nat.{ℕ, zero, suc}
 use lib.ListN.{length, drop}
-use Rattle.star_text.specs.Bytes.{isTerminate, isWhite, leading, firstRefused}
-use Rattle.star_text.specs.Outcome.{need}
+use Rattle.star_text.specs.Bytes.{isTerminate, isWhite, leading}
 use Rattle.star_lex.specs.Rules.{Rules, today, rules1991}
 use Rattle.star_lex.specs.Tokens.{dataWord, saveWord, loopWord, stopWord, globalWord}
-use Rattle.star_lex.specs.Split.{Lexeme, token, after, whiteNext, lineEnd, closes, closeLength, field, limited, blockWord, frameWord, alone, nameWord, referenceWord, either, wordLexeme, wordFrom, fieldLexeme, lexeme, moreOf, enter, split, tokensBy, tokensOf}
+use Rattle.star_lex.specs.Split.{Lexeme, after, lineEnd, closes, closeLength, field, limited, blockWord, frameWord, alone, nameWord, either, wordLexeme, wordFrom, fieldLexeme, lexeme, moreOf, enter, split, tokensBy, tokensOf}
 
 either-same : (o : Option (List ℕ)) (f g : List ℕ → Lexeme) (x y : Lexeme) → ((bs : List ℕ) → f bs ≡ g bs) → x ≡ y → either o f x ≡ either o g y
 unfolding either

@@ -1,13 +1,12 @@
 -- The rules of the two layouts: they split a file as today's do and their machine is today's; layout 0 is today's, and no number but 0 and 1 is a layout.
-use mathlib.Core.Path.{_≡_, refl, sym, _∙_, ap}
+use mathlib.Core.Path.{_≡_, refl}
 use mathlib.Core.Bool.{Bool, true, false, cond}
 use mathlib.Core.List.{List}
 use Prim.Native.Nat.{ℕ, _≤_, _<_}
-use native.Mathlib.Omega.{arith}
-use borrow.Author.Tests.{leb-true, leb-false, le-leb, lt-leb}
+use borrow.Author.Tests.{leb-true, le-leb, lt-leb}
 use lib.Dec.{eqb, leb}
 use Rattle.star_text.specs.Outcome.{refused, accepted, need}
-use Rattle.star_text.proofs.Outcome.{need-accepted, need-refused}
+use Rattle.star_text.proofs.Outcome.{need-accepted}
 use Rattle.star_lex.specs.Rules.{Rules, today, rules1991, layoutRules}
 use Rattle.star_lex.specs.Tokens.{Token}
 use Rattle.star_lex.specs.Split.{tokensBy, tokensOf}

@@ -2,17 +2,16 @@
 use mathlib.Core.Path.{_≡_, refl, sym, _∙_, ap, subst}
 use mathlib.Core.Bool.{Bool, true, false, cond, _&&_}
 use mathlib.Core.List.{List, [], _∷_, map}
-use Prim.Native.Nat.{ℕ, zero, suc, _+_, _-_, _*_, _≤_, _<_}
+use Prim.Native.Nat.{ℕ, suc, _+_, _-_, _*_, _≤_, _<_}
 use native.Mathlib.Omega.{arith}
 use borrow.Author.Tests.{eqb-true, eqb-false}
 use lib.Dec.{eqb}
-use lib.ListN.{length, getD, length-map}
-use Rattle.star_text.specs.Bytes.{mostBytes}
-use Rattle.star_lex.specs.Rules.{Rules, today, rules1991, layoutRules}
+use lib.ListN.{length, getD}
+use Rattle.star_lex.specs.Rules.{today, rules1991, layoutRules}
 use Rattle.star_lex.specs.Tokens.{Token, Placed, Each, opening}
 use Rattle.star_lex.specs.Split.{placed, tokensOf}
 use Rattle.star_lex.specs.Table.{firstByte}
-use Rattle.star_lex.specs.Holds.{Holds, fileTokens, tokenAt}
+use Rattle.star_lex.specs.Holds.{Holds, fileTokens}
 use Rattle.star_lex.proofs.Each.{each-at}
 use Rattle.star_text.specs.Outcome.{accepted}
 use Rattle.star_lex.specs.Answer.{tokensIn, tableOf}
@@ -20,7 +19,7 @@ use Rattle.star_lex.proofs.Held.{nowhere, held-row, count-tokens, count-small, 
 use Rattle.star_lex.proofs.Table.{first-row}
 use Rattle.star_grammar.specs.Tables.{Rows, noRows}
 use Rattle.star_grammar.specs.Machine.{good, run, start}
-use Rattle.star_grammar.specs.Layout.{Track, outside, isBetween, todayKind, todayFrom, todayRow, trackAt, todayKindAt, oldToken, oldRow, layoutRow}
+use Rattle.star_grammar.specs.Layout.{Track, isBetween, todayKind, todayRow, trackAt, todayKindAt, oldToken, oldRow, layoutRow}
 use Rattle.star_grammar.specs.Tree.{stop}
 use Rattle.star_grammar.proofs.Rest.{Fixed}
 use Rattle.star_grammar.proofs.Images.{today-at, row-length}
@@ -36,7 +35,6 @@ use Rattle.star_parse.specs.Parsed.{kindTokens, rowsRun}
 use Rattle.star_parse.proofs.RunKinds.{run-kinds, run-holding, length-kinds, kind-at, rows-run}
 use Rattle.star_unique.specs.Chain.{heldTable}
 use Rattle.star_unique.proofs.KindWords.{all-formed}
-use Rattle.star_read.specs.Read.{tokenPlace}
 use Rattle.star_read.specs.Judged.{Places, HoldsToday}
 use Rattle.star_read.proofs.Judging.{place-held}
 

@@ -10,15 +10,15 @@ use Rattle.star_rows.specs.Widths.{tokenWidth, setWidth, nameWidth, packetWidth
 use Rattle.star_text.specs.Bytes.{mostBytes}
 use Rattle.star_lex.specs.Rules.{Rules, today, layoutRules, atLevels, atLongest}
 use Rattle.star_lex.specs.Tokens.{Token, Placed, Each}
-use Rattle.star_lex.specs.Split.{tokensBy, tokensOf}
+use Rattle.star_lex.specs.Split.{tokensBy}
 use Rattle.star_lex.specs.Fits.{fits}
 use Rattle.star_lex.specs.Demands.{noPair, windows, windowsToken}
 use Rattle.star_grammar.specs.Tree.{File, fileYield, frameClose, FileBy, IsName, IsValue}
 use Rattle.star_grammar.specs.Tables.{Rows, rowsOf}
-use Rattle.star_grammar.specs.Reading.{ReadingBy, Reading}
+use Rattle.star_grammar.specs.Reading.{ReadingBy}
 use Rattle.star_read.specs.Answer.{readAnswer, Tables, zeroTables, tablesOf}
 use Rattle.star_read.specs.declared.Answer.{Answer}
-use Rattle.star_read.specs.Read.{FileRows, ReadOutcome, Sizes, tokensOnly, readOf, readBy, readIn}
+use Rattle.star_read.specs.Read.{FileRows, ReadOutcome, Sizes, tokensOnly, readBy, readIn}
 
 -- rules by which every file that is begun can be completed: loops have a level, and names may be so long that a file within the size limit has not
 -- taken all of them

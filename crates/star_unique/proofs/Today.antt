@@ -3,7 +3,7 @@
 use mathlib.Core.Path.{_≡_, refl, sym, _∙_, ap}
 use mathlib.Core.Bool.{Bool, true, false, cond, _&&_}
 use mathlib.Core.List.{List, [], _∷_}
-use Prim.Native.Nat.{ℕ, zero, suc, _+_, _*_, _≤_, _<_}
+use Prim.Native.Nat.{ℕ, suc, _+_, _≤_, _<_}
 use native.Mathlib.Nat.{zero-add}
 use native.Mathlib.Omega.{arith}
 use borrow.Author.Tests.{eqb-true, eqb-false}
@@ -11,7 +11,7 @@ use lib.Dec.{eqb}
 use lib.ListN.{length, getD}
 use Rattle.star_lex.specs.Rules.{today, rules1991, layoutRules}
 use Rattle.star_lex.specs.Tokens.{Token, saveWord}
-use Rattle.star_lex.specs.Holds.{Holds, fileTokens, tokenAt}
+use Rattle.star_lex.specs.Holds.{Holds, fileTokens}
 use Rattle.star_lex.proofs.Held.{nowhere, held-row, count-tokens, count-small}
 use Rattle.star_grammar.specs.Layout.{Track, outside, isBetween, todayKind, passKind, todayToken, todayFrom, todayRow, trackAt, todayKindAt}
 use Rattle.star_grammar.proofs.Images.{today-at}
@@ -19,7 +19,7 @@ use Rattle.star_frames.specs.Frames.{kindOf, closedFrames, asToday}
 use Rattle.star_frames.proofs.Retagging.{Retagged}
 use Rattle.star_frames.proofs.Closing.{closed-by}
 use Rattle.star_unique.specs.Repeat.{Taken, nothing, isTaken, takes, firstRepeat}
-use Rattle.star_unique.specs.Chain.{heldTable, unmarkedKind, kindsIn, withKinds}
+use Rattle.star_unique.specs.Chain.{kindsIn, withKinds}
 use Rattle.star_unique.specs.Marked.{Spans, Plain}
 use Rattle.star_unique.proofs.KindWords.{unmark-small, kind-below, kinds-held}
 use Rattle.star_unique.proofs.Marks.{holds-spans}

@@ -1,15 +1,11 @@
 -- `read_tables` meets its contract: what `judge` refuses is refused with cleared tables, and else the rows that were stored are all there.
-use mathlib.Core.Path.{_≡_, sym, _∙_, ap, subst}
+use mathlib.Core.Path.{_≡_, sym, _∙_, ap}
 use borrow.Author.Needs.{needs}
 use lib.ListN.{length}
 use Rattle.star_text.specs.Outcome.{accepted, then}
 use Rattle.star_lex.specs.Rules.{layoutRules}
 use Rattle.star_lex.specs.Split.{placed, tokensOf}
-use Rattle.star_grammar.specs.Tables.{noRows}
-use Rattle.star_grammar.specs.Machine.{run, start}
-use Rattle.star_parse.specs.Parsed.{FourTables, Answers, fourTables as four}
-use Rattle.star_grammar.specs.Layout.{todayRow}
-use Rattle.star_lex.specs.Holds.{fileTokens}
+use Rattle.star_parse.specs.Parsed.{FourTables, fourTables as four}
 use Rattle.star_read.specs.Read.{rowsFit, grammarOf}
 use Rattle.star_read.specs.Answer.{readAnswer}
 use Rattle.star_read.proofs.Places.{held-places, put-back}
