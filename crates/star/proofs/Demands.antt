@@ -4,6 +4,7 @@ use Rattle.star_text.proofs.Comparing.{compare-equal, compare-pairs, compare-st
 use Rattle.star_lex.proofs.NoPair.{no-pair-as-before}
 use Rattle.star_lex.proofs.Windows.{windows-splits}
 use Rattle.star_lex.specs.Rules.{layoutRules}
+use Rattle.star_read.proofs.InLayout.{by-layout}
 use Rattle.star_read.proofs.Usable.{today-usable, usable-1991}
 use Rattle.star_read.proofs.Demand1.{read-answers}
 use Rattle.star_read.proofs.Demand3.{accepted-exactly, one-reading, rows-of-reading, place-of-refusal}
@@ -72,4 +73,4 @@ indexes = (index-exactly, index-lookup, index-built, index-known)
 
 pub layouts : Layouts
 unfolding layoutRules
-layouts = (refl, refl, refl, refl, converted-reads, over-and-back)
+layouts = (refl, refl, refl, refl, by-layout, converted-reads, over-and-back)

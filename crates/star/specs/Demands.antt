@@ -5,7 +5,7 @@ use mathlib.Core.Bool.{true, false}
 use Rattle.star_text.specs.Demands.{CompareEqual, ComparePairs, CompareStops}
 use Rattle.star_lex.specs.Rules.{today, rules1991, layoutRules, oldBench}
 use Rattle.star_lex.specs.Demands.{NoPairAsBefore, WindowsSplits}
-use Rattle.star_read.specs.Demands.{Usable, AcceptedExactly, OneReading, RowsOfReading, PlaceOfRefusal, RefusalNumber, NumbersExclude, GlobalNumber, SaveNumber, ReadingSettled, OneOutcome, ReadAnswers, WindowsReads, OldFilesReadAsBefore, OldBenchRefuses, OldBenchSameOrFour}
+use Rattle.star_read.specs.Demands.{Usable, AcceptedExactly, OneReading, RowsOfReading, PlaceOfRefusal, RefusalNumber, NumbersExclude, GlobalNumber, SaveNumber, ReadingSettled, OneOutcome, ReadAnswers, ByLayout, WindowsReads, OldFilesReadAsBefore, OldBenchRefuses, OldBenchSameOrFour}
 use Rattle.star_find.specs.Demands.{LookupByName, LookupBlock, LookupFrame, ValuesInOrder, Column, SpanPart, LookupsAnswer, ValuesAnswer}
 use Rattle.star_number.specs.Demands.{NumberExact, NumberPieces, WholeExact, PowerExact, RoundedOnce, FloatsFinite, NumbersKnown, NumbersInOrder, NumbersAnswer}
 use Rattle.star_write.specs.Demands.{RoundTrip, WritesAgain, WriteAnswers, OverAndBack, ConvertedReads, ConvertAnswers}
@@ -64,4 +64,4 @@ Indexes = IndexExactly × IndexLookup × IndexBuilt × IndexKnown
 -- specification 14.15 and 20: layout 0 is today's and 1 that of 1991, in which a frame is closed by `stop_` and all else is as today; what conversion writes is accepted in the other layout with the same tree, of
 -- which it is the yield there; and converted back it is the file's own plain form
 abbrev pub Layouts : Type 0
-Layouts = (layoutRules 0 ≡ today) × (layoutRules 1 ≡ rules1991) × (today .stopCloses ≡ false) × (rules1991 .stopCloses ≡ true) × ConvertedReads × OverAndBack
+Layouts = (layoutRules 0 ≡ today) × (layoutRules 1 ≡ rules1991) × (today .stopCloses ≡ false) × (rules1991 .stopCloses ≡ true) × ByLayout × ConvertedReads × OverAndBack

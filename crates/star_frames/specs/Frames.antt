@@ -1,4 +1,4 @@
--- Table 1 of a row in the 1991 layout with the kinds of today's layout, and back. For contracts of `close_frames` and `open_frames`; what the kinds of today's layout are, star_grammar's specs/Layout.antt says.
+-- Table 1 of a row in the 1991 layout with the kinds of today's layout, and back. For contracts of `to_today`, `from_today`, `close_frames` and `open_frames`; what the kinds of today's layout are, star_grammar's specs/Layout.antt says.
 use mathlib.Core.Bool.{Bool, cond, _&&_}
 use mathlib.Core.List.{List}
 use Prim.Native.Nat.{ℕ, zero, suc, _*_}

@@ -1,5 +1,5 @@
 -- The rules of the two layouts: they split a file as today's do and their machine is today's; layout 0 is today's, and no number but 0 and 1 is a layout.
-use mathlib.Core.Path.{_≡_, refl}
+use mathlib.Core.Path.{_≡_, refl, ap}
 use mathlib.Core.Bool.{Bool, true, false, cond}
 use mathlib.Core.List.{List}
 use Prim.Native.Nat.{ℕ, _≤_, _<_}
@@ -16,7 +16,7 @@ use Rattle.star_grammar.specs.Tables.{Rows}
 use Rattle.star_grammar.specs.Machine.{State, run}
 use Rattle.star_grammar.proofs.Longest.{run-1991}
 use Rattle.star_read.specs.Read.{FileRows, Sizes, readBy, readIn, readOf}
-use Rattle.star_read.specs.Demands.{Usable}
+use Rattle.star_read.specs.Demands.{Usable, ByLayout}
 use Rattle.star_read.proofs.Usable.{today-usable, usable-1991}
 
 -- what holds of the rules of each layout
@@ -44,7 +44,7 @@ layout-run layout st ts r = layout-cases (λ rules. run rules st ts r ≡ run to
 -- a number that is no layout's is refused, whatever the file
 pub in-none : (layout : ℕ) (file : List ℕ) (words : Sizes) → 1 < layout → readIn layout file words ≡ refused 14 0
 unfolding readIn need
-in-none layout file words h = rw (lt-leb layout 1 h)
+in-none layout file words h = ap (λ known. need known 14 0 (readBy (layoutRules layout) file words)) (lt-leb layout 1 h)
 
 pub in-today : (file : List ℕ) (words : Sizes) → readIn 0 file words ≡ readOf file words
 unfolding readIn layoutRules need
@@ -58,3 +58,6 @@ module _ (layout : ℕ) (file : List ℕ) (words : Sizes) where
   pub in-layout : layout ≤ 1 → readIn layout file words ≡ readBy (layoutRules layout) file words
   unfolding readIn need
   in-layout h = rw (le-leb layout 1 h)
+
+pub by-layout : ByLayout
+by-layout layout file words = (in-layout layout file words, in-none layout file words)

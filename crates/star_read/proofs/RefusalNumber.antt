@@ -23,8 +23,9 @@ use Rattle.star_unique.specs.Repeat.{nothing}
 use Rattle.star_unique.proofs.Seen.{takesAll}
 use Rattle.star_unique.proofs.Clean.{Clean, clean-append}
 use Rattle.star_unique.proofs.Names.{other-taken}
-use Rattle.star_read.specs.Read.{tokensOnly}
-use Rattle.star_read.specs.Demands.{Begins, BeginsShape, NumberAt, NumberAtEnd, RefusalNumber, NumbersExclude, GlobalNumber, SaveNumber, Bad}
+use Rattle.star_text.specs.Outcome.{refused}
+use Rattle.star_read.specs.Read.{Sizes, tokensOnly, readBy}
+use Rattle.star_read.specs.Demands.{Begins, BeginsShape, Fair, NumberAt, NumberAtEnd, RefusalNumber, NumbersExclude, GlobalNumber, SaveNumber, Bad}
 use Rattle.star_read.proofs.Begin.{begins-walks, begins-clean, shape-walks}
 use Rattle.star_read.proofs.FairFile.{row-next, part-begins}
 use Rattle.star_read.proofs.Numbers as Numbers
@@ -131,12 +132,17 @@ module _ (rules : Rules) (e : rules .stopCloses ≡ true) (p : List Token) (t : 
       none-within p t [] (b .rest) k (subst (Each NotEnd) (b .reading .yield ∙ b .starts) (yield-none rules e (b .reading .tree) (b .reading .whole)))
 
 pub save-number : SaveNumber
-save-number rules usable e file words ps f n place r p t q i b k =
-    let none : Begins rules (tokensOnly (p ++ (t ∷ []))) → ⊥ = λ h. save-begins rules e (tokensOnly p) (t .token) k (subst (Begins rules) (map-append (λ x. x .token) p (t ∷ [])) h) in
-    (none, at (refusal-number rules usable file words ps f n place r .0 p t q i b none))
+save-number rules usable e = (save-begins rules e, refused-at)
   where
-    at : {m : ℕ} → NumberAt rules (tokensOnly p) (t .token) m → (m ≡ 8) ⊎ (m ≡ 10)
-    at (NumberAt.taken s) = absurd (save-shape rules e (tokensOnly p) (t .token) k s)
-    at (NumberAt.deep g limit s) = absurd (save-shape (atLevels rules limit) e (tokensOnly p) (t .token) k s)
-    at (NumberAt.packet g v h) = inr refl
-    at (NumberAt.other g h) = inl refl
+    at : (p : List Token) (t : Token) → t .kind ≡ 3 → {m : ℕ} → NumberAt rules p t m → (m ≡ 8) ⊎ (m ≡ 10)
+    at p t k (NumberAt.taken s) = absurd (save-shape rules e p t k s)
+    at p t k (NumberAt.deep g limit s) = absurd (save-shape (atLevels rules limit) e p t k s)
+    at p t k (NumberAt.packet g v h) = inr refl
+    at p t k (NumberAt.other g h) = inl refl
+
+    refused-at : (file : List ℕ) (words : Sizes) (ps : List Placed) → Fair rules file words ps → (n place : ℕ) → readBy rules file words ≡ refused n place
+        → (p : List Placed) (t : Placed) (q : List Placed) → ps ≡ p ++ (t ∷ q) → Begins rules (tokensOnly p) → t .token .kind ≡ 3 → (n ≡ 8) ⊎ (n ≡ 10)
+    refused-at file words ps f n place r p t q i b k =
+        let none : Begins rules (tokensOnly (p ++ (t ∷ []))) → ⊥
+        = λ h. save-begins rules e (tokensOnly p) (t .token) k (subst (Begins rules) (map-append (λ x. x .token) p (t ∷ [])) h) in
+        at (tokensOnly p) (t .token) k (refusal-number rules usable file words ps f n place r .0 p t q i b none)

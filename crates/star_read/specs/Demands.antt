@@ -138,12 +138,12 @@ GlobalNumber = (rules : Rules) → Usable rules → (file : List ℕ) (words : S
     → (p : List Placed) (t : Placed) (q : List Placed) → ps ≡ p ++ (t ∷ q) → Begins rules (tokensOnly p)
     → (Begins rules (tokensOnly (p ++ (t ∷ []))) → ⊥) → t .token .kind ≡ 12 → (n ≡ 8) ⊎ (n ≡ 10)
 
--- where `stop_` closes frames, a `save_` alone stands in no file, and the first is refused with 8 or 10
+-- where `stop_` closes frames, a `save_` alone stands in no file, and where a file is refused at one the number is 8 or 10
 abbrev pub SaveNumber : Type 0
-SaveNumber = (rules : Rules) → Usable rules → rules .stopCloses ≡ true → (file : List ℕ) (words : Sizes) (ps : List Placed) → Fair rules file words ps
-    → (n place : ℕ) → readBy rules file words ≡ refused n place
-    → (p : List Placed) (t : Placed) (q : List Placed) → ps ≡ p ++ (t ∷ q) → Begins rules (tokensOnly p) → t .token .kind ≡ 3
-    → (Begins rules (tokensOnly (p ++ (t ∷ []))) → ⊥) × ((n ≡ 8) ⊎ (n ≡ 10))
+SaveNumber = (rules : Rules) → Usable rules → rules .stopCloses ≡ true
+    → ((p : List Token) (t : Token) → t .kind ≡ 3 → Begins rules (p ++ (t ∷ [])) → ⊥)
+    × ((file : List ℕ) (words : Sizes) (ps : List Placed) → Fair rules file words ps → (n place : ℕ) → readBy rules file words ≡ refused n place
+    → (p : List Placed) (t : Placed) (q : List Placed) → ps ≡ p ++ (t ∷ q) → Begins rules (tokensOnly p) → t .token .kind ≡ 3 → (n ≡ 8) ⊎ (n ≡ 10))
 
 -- refusal and place where a file has no reading: of the first token that, with those before it, begins no file, or of the file's end
 pub data Bad (rules : Rules) (file : List ℕ) (ps : List Placed) : (number place : ℕ) → Type 0 where
@@ -248,3 +248,8 @@ abbrev pub OldBenchSameOrFour : Type 0
 OldBenchSameOrFour = (rules : Rules) (old : ℕ) → old ≤ rules .longest → (file : List ℕ) (words : Sizes)
     → (readBy (atLongest rules old) file words ≡ readBy rules file words)
     ⊎ ((place : ℕ) × (readBy (atLongest rules old) file words ≡ refused 4 place))
+
+-- reading in a layout, 0 or 1, is reading by its rules; any other number is 14 at 0, whatever the file
+abbrev pub ByLayout : Type 0
+ByLayout = (layout : ℕ) (file : List ℕ) (words : Sizes)
+    → (layout ≤ 1 → readIn layout file words ≡ readBy (layoutRules layout) file words) × (1 < layout → readIn layout file words ≡ refused 14 0)

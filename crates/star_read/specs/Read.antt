@@ -1,5 +1,5 @@
 -- What reading a file gives: specification 8, and in a layout 20. For contracts, of `read`, `read_layout` and of what reads first. What is accepted, with which rows, and where a file is
--- refused is said without a machine by specs/Demands.antt; of `readIn`, that the layout is looked at first is believed.
+-- refused is said without a machine by specs/Demands.antt; of `readIn` by `ByLayout`.
 use mathlib.Core.Bool.{cond}
 use mathlib.Core.List.{List, [], _∷_, map}
 use Prim.Native.Nat.{ℕ, zero, suc}
