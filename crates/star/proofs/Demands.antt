@@ -19,9 +19,10 @@ use Rattle.star_number.proofs.Exactness.{whole-exact, power-exact, rounded-once
 use Rattle.star_number.proofs.Finite.{floats-finite}
 use Rattle.star_number.proofs.Known.{numbers-known}
 use Rattle.star_number.proofs.InOrder.{numbers-in-order, numbers-answer}
-use Rattle.star_write.proofs.Demand1.{write-answers, convert-answers}
-use Rattle.star_write.proofs.OverAndBack.{converted-reads, over-and-back}
+use Rattle.star_write.proofs.Demand1.{write-answers}
 use Rattle.star_write.proofs.RoundTrip.{round-trip, writes-again}
+use Rattle.star_convert.proofs.Demand1.{convert-answers}
+use Rattle.star_convert.proofs.OverAndBack.{converted-reads, over-and-back}
 use Rattle.star_check.proofs.OldBench.{fits-32, fits-32-no, fits-answers}
 use Rattle.star_index.proofs.Exactly.{index-exactly}
 use Rattle.star_index.proofs.IndexLookup.{index-lookup}

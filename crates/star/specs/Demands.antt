@@ -8,7 +8,8 @@ use Rattle.star_lex.specs.Demands.{NoPairAsBefore, WindowsSplits}
 use Rattle.star_read.specs.Demands.{Usable, AcceptedExactly, OneReading, RowsOfReading, PlaceOfRefusal, RefusalNumber, NumbersExclude, GlobalNumber, SaveNumber, ReadingSettled, OneOutcome, ReadAnswers, ByLayout, WindowsReads, OldFilesReadAsBefore, OldBenchRefuses, OldBenchSameOrFour}
 use Rattle.star_find.specs.Demands.{LookupByName, LookupBlock, LookupFrame, ValuesInOrder, Column, SpanPart, LookupsAnswer, ValuesAnswer}
 use Rattle.star_number.specs.Demands.{NumberExact, NumberPieces, WholeExact, PowerExact, RoundedOnce, FloatsFinite, NumbersKnown, NumbersInOrder, NumbersAnswer}
-use Rattle.star_write.specs.Demands.{RoundTrip, WritesAgain, WriteAnswers, OverAndBack, ConvertedReads, ConvertAnswers}
+use Rattle.star_write.specs.Demands.{RoundTrip, WritesAgain, WriteAnswers}
+use Rattle.star_convert.specs.Demands.{OverAndBack, ConvertedReads, ConvertAnswers}
 use Rattle.star_check.specs.Demands.{Fits32, Fits32No, FitsAnswers}
 use Rattle.star_index.specs.Known.{IndexKnown}
 use Rattle.star_index.specs.Demands.{IndexExactly, IndexLookup, IndexBuilt, IndexAnswers}

@@ -17,7 +17,8 @@ ghost use Rattle.star_index.specs.Index.{Checks, Builds};
 ghost use Rattle.star_index.specs.Lookup.{findSlot};
 ghost use Rattle.star_number.specs.Taken.{numberIn};
 ghost use Rattle.star_number.specs.Forms.{formOf, valueNumber, valueFormOf};
-ghost use Rattle.star_write.specs.Answer.{Writes, Converts};
+ghost use Rattle.star_write.specs.Answer.{Writes};
+ghost use Rattle.star_convert.specs.Convert.{Converts};
 ghost use Rattle.star_check.specs.Fits.{FitsChecked};
 
 // Reads a file into the five tables: layout 0 is today's, 1 that of 1991, and any other number is refused before all else. On a refusal the counts and
@@ -236,7 +237,7 @@ pub extern "C" fn star_convert(
         (tables (now (tokens .exit)) (now (sets .exit)) (now (names .exit)) (now (packets .exit)) (now (values .exit)))
         (now (out .entry)) (now (out .exit)) r ⌝ }
 {
-    star_write::convert(file, layout, tokens, sets, names, packets, values, out)
+    star_convert::convert(file, layout, tokens, sets, names, packets, values, out)
 }
 
 // Reads a file into the five tables and answers whether every name and code has at most 32 bytes. After yes or no the tables hold the reading; on a refusal yes, counts and

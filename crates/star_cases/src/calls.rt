@@ -71,7 +71,7 @@ fn convert(file: &[u8], layout: u32, kept: &mut [u32], out: &mut [u8]) -> Writte
     let mut names = [FILLED; 1024];
     let mut packets = [FILLED; 1024];
     let mut values = [FILLED; 1024];
-    let written = star_write::convert(
+    let written = star_convert::convert(
         file,
         layout,
         kept::lend(&mut tokens, kept, 1),

@@ -1,4 +1,4 @@
--- Table 1 with the tokens of a file: specification 7.2. For contracts of inner functions that are handed it: star_unique, star_read, star_write, star_check, star_list.
+-- Table 1 with the tokens of a file: specification 7.2. For contracts of inner functions that are handed it: star_unique, star_read, star_write, star_convert, star_check, star_list.
 use mathlib.Core.Path.{_≡_}
 use mathlib.Core.List.{List, [], map}
 use Prim.Native.Nat.{ℕ, _*_, _≤_}

@@ -1,11 +1,6 @@
 pub mod Putting
 pub mod Lengths
 pub mod Prefix
-pub mod OtherLayout
-pub mod Exchanging
-pub mod TodayTable
-pub mod Converting
 pub mod Outcomes
 pub mod RoundTrip
-pub mod OverAndBack
 pub mod Demand1

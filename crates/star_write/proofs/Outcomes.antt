@@ -1,5 +1,5 @@
--- What an answer tells of the outcome. Reading's answer decides that of what writes, with the length of the plain form; and from that answer follow the tables and the output. The laws are for any reading and
--- any row of its tokens: `write` has the row itself, and `convert` the row in the other layout.
+-- What an answer tells of the outcome. Reading's answer decides that of writing, with the length of the plain form; and from that answer follow the tables and the output. What is written of a reading is
+-- said for any row that is made of its tokens: writing has the row itself, and converting that of the other layout.
 use mathlib.Core.Path.{_≡_, refl, sym, _∙_, ap, subst}
 use mathlib.Core.List.{List, _++_}
 use Prim.Native.Nat.{ℕ, _-_, _≤_, _<_}
@@ -11,6 +11,7 @@ use lib.ListN.{length, replicate}
 use Rattle.star_text.specs.Outcome.{refused, accepted, then, need}
 use Rattle.star_text.proofs.Outcome.{accepted-same, need-accepted, need-refused, then-accepted, then-refused, NotZero}
 use Rattle.star_text.specs.Bytes.{mostBytes}
+use Rattle.star_lex.specs.Rules.{layoutRules}
 use Rattle.star_lex.specs.Tokens.{Token, Placed}
 use Rattle.star_lex.specs.Plain.{plainOf}
 use Rattle.star_lex.proofs.Cases.{impossible}
@@ -19,11 +20,14 @@ use Rattle.star_lex.specs.Holds.{fileTokens}
 use Rattle.star_read.specs.Read.{FileRows, ReadOutcome, Sizes, tokensOnly, readIn, readOf}
 use Rattle.star_read.specs.Answer.{readAnswer, readingOf, Tables, Leaves}
 use Rattle.star_read.specs.declared.Answer.{Answer}
-use Rattle.star_read.proofs.Accepted.{read-number, answer-refused, tokens-file}
-use Rattle.star_write.specs.Write.{Writing, written, plainFits, writeOf, otherRow, convertOf}
-use Rattle.star_write.specs.Answer.{bytesOf, outputOf, writeAnswer}
-use Rattle.star_write.specs.Convert.{writingBy, AsLong}
+use Rattle.star_read.proofs.Accepted.{number-in, accepted-in, answer-refused, tokens-are}
+use Rattle.star_write.specs.Write.{Writing, written, plainFits, writeOf, writeIn}
+use Rattle.star_write.specs.Answer.{bytesOf, outputOf, writeAnswer, Writes, WritesIn}
 use Rattle.star_write.specs.declared.Written.{Written}
+
+-- what is written after reading: the plain form of a row that is made of the tokens
+abbrev pub writingBy : ReadOutcome → (row : List Token → List Token) → (room : ℕ) → Writing
+writingBy o row room = then o (λ read. plainFits room read (plainOf (row (tokensOnly (read .0)))))
 
 -- what was written: the file was accepted, and the plain form is within the size limit and the output
 pub record Wrote (o : ReadOutcome) (row : List Token → List Token) (room : ℕ) (ps : List Placed) (rows : Rows) (plain : List ℕ) : Type 0 where
@@ -32,7 +36,7 @@ pub record Wrote (o : ReadOutcome) (row : List Token → List Token) (room : ℕ
   pub small : length plain ≤ mostBytes
   pub fits : length plain ≤ room
 
-wrote-by : (o : ReadOutcome) (row : List Token → List Token) (room : ℕ) (ps : List Placed) (rows : Rows) (plain : List ℕ)
+pub wrote-by : (o : ReadOutcome) (row : List Token → List Token) (room : ℕ) (ps : List Placed) (rows : Rows) (plain : List ℕ)
     → writingBy o row room ≡ written ps rows plain → Wrote o row room ps rows plain
 unfolding plainFits
 wrote-by o row room ps rows plain e =
@@ -54,14 +58,10 @@ pub wrote : (file : List ℕ) (words : Sizes) (room : ℕ) (ps : List Placed) (r
 unfolding writeOf
 wrote file words room ps rows plain e = wrote-by (readOf file words) (λ ts. ts) room ps rows plain e
 
-pub converted : (layout : ℕ) (file : List ℕ) (words : Sizes) (room : ℕ) (ps : List Placed) (rows : Rows) (plain : List ℕ)
-    → convertOf layout file words room ≡ written ps rows plain → Wrote (readIn layout file words) (otherRow layout) room ps rows plain
-unfolding convertOf
-converted layout file words room ps rows plain e = wrote-by (readIn layout file words) (otherRow layout) room ps rows plain e
-
--- the tokens of a file that is read
-pub as-long : (file : List ℕ) (words : Sizes) → AsLong file (readOf file words) (λ ts. ts)
-as-long file words = record { number = read-number file words; tokens = λ ps rows e. tokens-file file words ps rows e; long = λ ps rows e. refl }
+-- today's layout is layout 0
+pub writes-today : (file : List ℕ) (before after : Tables) (room out : List ℕ) (r : Written) → WritesIn 0 file before after room out r → Writes file before after room out r
+unfolding writeIn writeOf readIn layoutRules need
+writes-today file before after room out r w = w
 
 -- the answer of a written file by reading's counts and the size
 abbrev pub counted : ℕ → Answer → Written
@@ -77,44 +77,36 @@ counted size r = record {
 }
 
 -- what is answered after reading's answer
-module _ (file : List ℕ) (o : ReadOutcome) (row : List Token → List Token) (l : AsLong file o row) (r : Answer) (e : r ≡ readAnswer o) where
-  pub refuses-reading : (room : ℕ) → (r .refusal ≡ 0 → ⊥) → writingBy o row room ≡ refused (r .refusal) (r .place)
-  unfolding then
-  refuses-reading room f = rw (answer-refused o r e f)
+module _ (layout : ℕ) (file : List ℕ) (words : Sizes) (r : Answer) (e : r ≡ readAnswer (readIn layout file words)) where
+  pub refuses-reading : (room : ℕ) → (r .refusal ≡ 0 → ⊥) → writeIn layout file words room ≡ refused (r .refusal) (r .place)
+  unfolding writeIn then
+  refuses-reading room f = rw (answer-refused (readIn layout file words) r e f)
 
   module _ (room : ℕ) (z : r .refusal ≡ 0) where
-    accepts : (ps : List Placed) × (rows : Rows) × (o ≡ accepted (ps, rows))
-    unfolding readAnswer
-    accepts = go o refl e
-      where
-        go : (u : ReadOutcome) → o ≡ u → r ≡ readAnswer u → (ps : List Placed) × (rows : Rows) × (o ≡ accepted (ps, rows))
-        go (refused n place) q d = absurd (l .number n place q (sym (ap (λ t. t .refusal) d) ∙ z))
-        go (accepted (ps, rows)) q d = (ps, rows, q)
+    accepts : (ps : List Placed) × (rows : Rows) × (readIn layout file words ≡ accepted (ps, rows))
+    accepts = accepted-in layout file words r e z
 
-    after-reading : writingBy o row room ≡ plainFits room (accepts .0, accepts .1) (plainOf (row (fileTokens file)))
-    unfolding then
+    after-reading : writeIn layout file words room ≡ plainFits room (accepts .0, accepts .1) (plainOf (fileTokens file))
+    unfolding writeIn then
     after-reading =
-        ap (λ u. writingBy u row room) (accepts .2)
-        ∙ ap (λ ts. plainFits room (accepts .0, accepts .1) (plainOf (row ts))) (l .tokens (accepts .0) (accepts .1) (accepts .2))
+        ap (λ u. writingBy u (λ ts. ts) room) (accepts .2)
+        ∙ ap (λ ts. plainFits room (accepts .0, accepts .1) (plainOf ts)) (tokens-are layout file words (accepts .0) (accepts .1) (accepts .2))
 
-    size : length (plainOf (row (fileTokens file))) ≡ length (plainOf (fileTokens file))
-    size = l .long (accepts .0) (accepts .1) (accepts .2)
-
-    pub too-long : mostBytes < length (plainOf (fileTokens file)) → writingBy o row room ≡ refused 1 0
+    pub too-long : mostBytes < length (plainOf (fileTokens file)) → writeIn layout file words room ≡ refused 1 0
     unfolding plainFits need
-    too-long h = rw (after-reading, size, lt-leb _ _ h)
+    too-long h = rw (after-reading, lt-leb _ _ h)
 
-    pub too-short : length (plainOf (fileTokens file)) ≤ mostBytes → room < length (plainOf (fileTokens file)) → writingBy o row room ≡ refused 7 6
+    pub too-short : length (plainOf (fileTokens file)) ≤ mostBytes → room < length (plainOf (fileTokens file)) → writeIn layout file words room ≡ refused 7 6
     unfolding plainFits need
-    too-short h k = rw (after-reading, size, le-leb _ _ h, lt-leb _ _ k)
+    too-short h k = rw (after-reading, le-leb _ _ h, lt-leb _ _ k)
 
     pub fits-output : length (plainOf (fileTokens file)) ≤ mostBytes → length (plainOf (fileTokens file)) ≤ room
-        → counted (length (plainOf (fileTokens file))) r ≡ writeAnswer (writingBy o row room)
+        → counted (length (plainOf (fileTokens file))) r ≡ writeAnswer (writeIn layout file words room)
     unfolding plainFits need writeAnswer readingOf bytesOf readAnswer
     fits-output h k =
-        let w : writingBy o row room ≡ written (accepts .0) (accepts .1) (plainOf (row (fileTokens file)))
-        = rw (after-reading, size, le-leb _ _ h, le-leb _ _ k) in
-        ap (counted (length (plainOf (fileTokens file)))) (e ∙ ap readAnswer (accepts .2)) ∙ ap (λ n. counted n (readAnswer (accepted (accepts .0, accepts .1)))) (sym size) ∙ sym (ap writeAnswer w)
+        let w : writeIn layout file words room ≡ written (accepts .0) (accepts .1) (plainOf (fileTokens file))
+        = rw (after-reading, le-leb _ _ h, le-leb _ _ k) in
+        ap (counted (length (plainOf (fileTokens file)))) (e ∙ ap readAnswer (accepts .2)) ∙ sym (ap writeAnswer w)
 
 -- an answer of another number: the outcome is that refusal
 pub writing-refused : (o : Writing) (a : Written) → a ≡ writeAnswer o → (a .refusal ≡ 0 → ⊥) → o ≡ refused (a .refusal) (a .place)
@@ -133,26 +125,26 @@ writing-number o row room f n place e z =
     (λ read d h. need-refused _ 1 0 _ n place h
     (λ s k. need-refused _ 7 6 _ n place k (λ r w. impossible cc) (λ r m i. omega arith)) (λ s m i. omega arith))
 
--- an answer of refusal 0: the row is written
-pub record Success (file : List ℕ) (o : ReadOutcome) (row : List Token → List Token) (room : ℕ) (a : Written) : Type 0 where
+-- an answer of refusal 0: the plain form is written
+pub record Success (layout : ℕ) (file : List ℕ) (words : Sizes) (room : ℕ) (a : Written) : Type 0 where
   pub ps : List Placed
   pub rows : Rows
-  pub outcome : writingBy o row room ≡ written ps rows (plainOf (row (fileTokens file)))
-  pub reads : o ≡ accepted (ps, rows)
+  pub outcome : writeIn layout file words room ≡ written ps rows (plainOf (fileTokens file))
+  pub reads : readIn layout file words ≡ accepted (ps, rows)
   pub count : a .tokens ≡ length ps
   pub size : a .length ≡ length (plainOf (fileTokens file))
   pub fits : a .length ≤ room
 
-pub success : (file : List ℕ) (o : ReadOutcome) (row : List Token → List Token) → AsLong file o row → (room : ℕ) (a : Written) → a ≡ writeAnswer (writingBy o row room) → a .refusal ≡ 0
-    → Success file o row room a
-unfolding writeAnswer readingOf bytesOf readAnswer
-success file o row l room a e z = go (writingBy o row room) refl e
+pub success : (layout : ℕ) (file : List ℕ) (words : Sizes) (room : ℕ) (a : Written) → a ≡ writeAnswer (writeIn layout file words room) → a .refusal ≡ 0
+    → Success layout file words room a
+unfolding writeIn writeAnswer readingOf bytesOf readAnswer
+success layout file words room a e z = go (writeIn layout file words room) refl e
   where
-    go : (w : Writing) → writingBy o row room ≡ w → a ≡ writeAnswer w → Success file o row room a
-    go (refused n place) d h = absurd (writing-number o row room (l .number) n place d (sym (ap (λ t. t .refusal) h) ∙ z))
+    go : (w : Writing) → writeIn layout file words room ≡ w → a ≡ writeAnswer w → Success layout file words room a
+    go (refused n place) d h = absurd (writing-number (readIn layout file words) (λ ts. ts) room (number-in layout file words) n place d (sym (ap (λ t. t .refusal) h) ∙ z))
     go (accepted ((ps, rows), plain)) d h =
-        let w : Wrote o row room ps rows plain = wrote-by o row room ps rows plain d in
-        let same : plain ≡ plainOf (row (fileTokens file)) = sym (w .plain-is) ∙ ap (λ ts. plainOf (row ts)) (l .tokens ps rows (w .reads)) in
+        let w : Wrote (readIn layout file words) (λ ts. ts) room ps rows plain = wrote-by (readIn layout file words) (λ ts. ts) room ps rows plain d in
+        let same : plain ≡ plainOf (fileTokens file) = sym (w .plain-is) ∙ ap plainOf (tokens-are layout file words ps rows (w .reads)) in
         let long : a .length ≡ length plain = ap (λ t. t .length) h in
         record {
           ps = ps;
@@ -160,7 +152,7 @@ success file o row l room a e z = go (writingBy o row room) refl e
           outcome = d ∙ ap (written ps rows) same;
           reads = w .reads;
           count = ap (λ t. t .tokens) h;
-          size = long ∙ ap length same ∙ l .long ps rows (w .reads);
+          size = long ∙ ap length same;
           fits = omega (arith, w .fits);
         }
 
@@ -178,13 +170,11 @@ pub refused-output : (room : ℕ) {o : Writing} {n place : ℕ} {out : List ℕ}
 unfolding outputOf bytesOf
 refused-output room e z = zeros (sym (sub-zero room)) z ∙ sym (ap (λ o. outputOf o room) e)
 
-module _ {file : List ℕ} {o : ReadOutcome} {row : List Token → List Token} {room : ℕ} {a : Written} (l : AsLong file o row) (d : Success file o row room a) where
-  pub written-tables : {words : Sizes} {t : Tables} → Leaves o words t → Leaves (readingOf (writingBy o row room)) words t
+module _ {layout : ℕ} {file : List ℕ} {words : Sizes} {room : ℕ} {a : Written} (d : Success layout file words room a) where
+  pub written-tables : {t : Tables} → Leaves (readIn layout file words) words t → Leaves (readingOf (writeIn layout file words room)) words t
   unfolding readingOf
-  written-tables {words} {t} k = subst (λ u. Leaves u words t) (d .reads ∙ sym (ap readingOf (d .outcome))) k
+  written-tables {t} k = subst (λ u. Leaves u words t) (d .reads ∙ sym (ap readingOf (d .outcome))) k
 
-  pub written-output : {out : List ℕ} → out ≡ plainOf (row (fileTokens file)) ++ replicate (room - a .length) 0 → out ≡ outputOf (writingBy o row room) room
+  pub written-output : {out : List ℕ} → out ≡ plainOf (fileTokens file) ++ replicate (room - a .length) 0 → out ≡ outputOf (writeIn layout file words room) room
   unfolding outputOf bytesOf
-  written-output z =
-      z ∙ ap (λ n. plainOf (row (fileTokens file)) ++ replicate (room - n) 0) (d .size ∙ sym (l .long (d .ps) (d .rows) (d .reads)))
-      ∙ sym (ap (λ w. outputOf w room) (d .outcome))
+  written-output z = z ∙ ap (λ n. plainOf (fileTokens file) ++ replicate (room - n) 0) (d .size) ∙ sym (ap (λ w. outputOf w room) (d .outcome))

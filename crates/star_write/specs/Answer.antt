@@ -1,4 +1,4 @@
--- What writing and converting answer, and what they leave in the lent tables and the output: specification 12.6 and 12.7. Believed; the contracts of `write` and `convert` and the demands cite it.
+-- What writing answers, and what it leaves in the lent tables and the output: specification 12.6 and 12.7. Believed; the contracts of `write` and `write_layout`, converting and the demands cite it.
 use mathlib.Core.Path.{_≡_}
 use mathlib.Core.List.{List, [], _++_}
 use Prim.Native.Nat.{ℕ, _-_}
@@ -6,7 +6,7 @@ use lib.ListN.{length, replicate}
 use Rattle.star_text.specs.Outcome.{refused, accepted}
 use Rattle.star_read.specs.Answer.{readAnswer, readingOf, Tables, sizes, Leaves}
 use Rattle.star_read.specs.declared.Answer.{Answer}
-use Rattle.star_write.specs.Write.{Writing, writeOf, convertOf}
+use Rattle.star_write.specs.Write.{Writing, writeOf, writeIn}
 use Rattle.star_write.specs.declared.Written.{Written}
 
 -- the bytes that are written
@@ -43,6 +43,6 @@ pub record Leaving (w : Writing) (before after : Tables) (room out : List ℕ) (
 abbrev pub Writes : (file : List ℕ) (before after : Tables) (room out : List ℕ) → Written → Type 0
 Writes file before after room out r = Leaving (writeOf file (sizes before) (length room)) before after room out r
 
--- and of converting from a layout into the other: the tables hold the reading of the file as it was read
-abbrev pub Converts : (layout : ℕ) (file : List ℕ) (before after : Tables) (room out : List ℕ) → Written → Type 0
-Converts layout file before after room out r = Leaving (convertOf layout file (sizes before) (length room)) before after room out r
+-- and in a layout
+abbrev pub WritesIn : (layout : ℕ) (file : List ℕ) (before after : Tables) (room out : List ℕ) → Written → Type 0
+WritesIn layout file before after room out r = Leaving (writeIn layout file (sizes before) (length room)) before after room out r

@@ -1,5 +1,4 @@
 pub mod Write
 pub mod Answer
 pub mod Put
-pub mod Convert
 pub mod Demands

@@ -1,7 +1,9 @@
--- What the routines that write answer and leave, in terms of the bytes that they write. For contracts of star_write's inner functions.
+-- What the routines that write answer and leave, in terms of the bytes that they write. For contracts of star_write's inner functions and of those that converting calls.
 use mathlib.Core.Path.{_≡_}
-use mathlib.Core.List.{List, _++_}
+use mathlib.Core.Bool.{cond}
+use mathlib.Core.List.{List, [], _++_}
 use Prim.Native.Nat.{ℕ, _+_}
+use lib.Dec.{leb}
 use lib.ListN.{length, take, drop}
 use Rattle.star_lex.specs.Tokens.{Token}
 
@@ -18,3 +20,7 @@ pub record Put (bytes : List ℕ) (at : ℕ) (before after : List ℕ) (next : �
 pub record Filled (bytes before after : List ℕ) (count : ℕ) : Type 0 where
   pub counts : count ≡ length bytes
   pub leaves : after ≡ bytes ++ drop (length bytes) before
+
+-- these bytes where a room of so many has place for them from here on, else none
+unfoldable pub within : (room at : ℕ) → List ℕ → List ℕ
+within room at bytes = cond (leb (at + length bytes) room) bytes []

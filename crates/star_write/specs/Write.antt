@@ -1,15 +1,13 @@
--- What writing gives, and converting from one layout into the other: specification 12.4. Believed; the contracts of `write` and `convert` and the demands cite it.
+-- What writing gives: specification 12.4. Believed; the contracts of `write` and `write_layout`, converting and the demands cite it.
 use mathlib.Core.List.{List}
-use Prim.Native.Nat.{ℕ, _-_}
+use Prim.Native.Nat.{ℕ}
 use lib.Dec.{leb}
 use lib.ListN.{length}
 use Rattle.star_text.specs.Outcome.{Outcome, accepted, then, need}
 use Rattle.star_text.specs.Bytes.{mostBytes}
-use Rattle.star_lex.specs.Rules.{layoutRules}
-use Rattle.star_lex.specs.Tokens.{Token, Placed}
+use Rattle.star_lex.specs.Tokens.{Placed}
 use Rattle.star_lex.specs.Plain.{plainOf}
 use Rattle.star_grammar.specs.Tables.{Rows}
-use Rattle.star_grammar.specs.Layout.{todayRow, layoutRow}
 use Rattle.star_read.specs.Read.{FileRows, Sizes, tokensOnly, readIn, readOf}
 
 -- what is written: the tokens and rows of the reading, and the plain form
@@ -27,10 +25,6 @@ plainFits room read plain = need (leb (length plain) mostBytes) 1 0 (need (leb (
 unfoldable pub writeOf : List ℕ → Sizes → (room : ℕ) → Writing
 writeOf file words room = then (readOf file words) (λ read. plainFits room read (plainOf (tokensOnly (read .0))))
 
--- a row of tokens in a layout, 0 or 1, as one of the other: what closes frames is exchanged, and all else stays
-unfoldable pub otherRow : (layout : ℕ) → List Token → List Token
-otherRow layout ts = layoutRow (layoutRules (1 - layout)) (todayRow (layoutRules layout) ts)
-
--- what is written when a file is read in one layout and written in the other
-unfoldable pub convertOf : (layout : ℕ) → List ℕ → Sizes → (room : ℕ) → Writing
-convertOf layout file words room = then (readIn layout file words) (λ read. plainFits room read (plainOf (otherRow layout (tokensOnly (read .0)))))
+-- the same in a layout, 0 or 1
+unfoldable pub writeIn : (layout : ℕ) → List ℕ → Sizes → (room : ℕ) → Writing
+writeIn layout file words room = then (readIn layout file words) (λ read. plainFits room read (plainOf (tokensOnly (read .0))))

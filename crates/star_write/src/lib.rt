@@ -1,25 +1,20 @@
-// Writing the plain form of a STAR File, in its layout or in the other, into lent bytes.
-mod frames;
+// Writing the plain form of a STAR File, of either layout, into lent bytes.
 mod plain;
-mod room;
-mod token;
+pub mod room;
+pub mod token;
 
 use star_read::Answer;
 ghost use mathlib.Core.Path.{_≡_};
-ghost use mathlib.Core.List.{List, _++_};
+ghost use mathlib.Core.List.{_++_};
 ghost use Prim.Native.Nat.{ℕ, _-_, _≤_};
 ghost use lib.ListN.{length, replicate};
-ghost use Rattle.star_lex.specs.Rules.{layoutRules};
 ghost use Rattle.star_lex.specs.Plain.{plainOf};
 ghost use Rattle.star_lex.specs.Holds.{Holds, fileTokens};
-ghost use Rattle.star_lex.specs.Tokens.{Token};
-ghost use Rattle.star_grammar.specs.Reading.{ReadingBy};
-ghost use Rattle.star_read.specs.Read.{ReadOutcome};
+ghost use Rattle.star_read.specs.Read.{Sizes, readIn};
 ghost use Rattle.star_text.specs.Outcome.{refused};
 ghost use Rattle.star_read.specs.Answer.{readAnswer, tables, sizes, Leaves};
-ghost use Rattle.star_write.specs.Write.{otherRow};
-ghost use Rattle.star_write.specs.Answer.{writeAnswer, Writes, Converts};
-ghost use Rattle.star_write.specs.Convert.{writingBy, AsLong};
+ghost use Rattle.star_write.specs.Write.{writeIn};
+ghost use Rattle.star_write.specs.Answer.{writeAnswer, Writes, WritesIn};
 
 // What writing answers: refusal and place, both 0 when written, the length of the plain form, and the number of rows of each table.
 #[repr(C)]
@@ -53,8 +48,8 @@ fn refusing(refusal: u32, place: u32) -> Written
 // What writing answers after reading has answered: refusal 1 if the plain form is too long, then 7 if the output is too short.
 fn answer(file: &[u8], tokens: &[u32], reading: Answer, room: usize) -> Written
     requires { ⌜ (reading .refusal ≡ 0 → Holds (now file) (now tokens) (reading .tokens)) ⌝ }
-    ensures { λ r. ⌜ ((o : ReadOutcome) (row : List Token → List Token) → AsLong (now (file .entry)) o row → reading ≡ readAnswer o
-        → r ≡ writeAnswer (writingBy o row room)) ⌝ }
+    ensures { λ r. ⌜ ((layout : ℕ) (words : Sizes) → reading ≡ readAnswer (readIn layout (now (file .entry)) words)
+        → r ≡ writeAnswer (writeIn layout (now (file .entry)) words room)) ⌝ }
 {
     if reading.refusal != 0 {
         return refusing(reading.refusal, reading.place);
@@ -107,9 +102,11 @@ fn put_plain(file: &[u8], tokens: &[u32], count: usize, size: usize, out: &mut [
     room::clear_bytes(out, size);
 }
 
-// Reads a file into the five tables and writes its plain form. On a refusal length, counts, tables and output are all 0.
-pub fn write(
+// Reads a file of a layout into the five tables and writes its plain form in that layout: 0 is today's, 1 that of 1991, and any other number is refused before all else. On a refusal
+// length, counts, tables and output are all 0.
+pub fn write_layout(
     file: &[u8],
+    layout: u32,
     tokens: &mut [u32],
     sets: &mut [u32],
     names: &mut [u32],
@@ -117,12 +114,12 @@ pub fn write(
     values: &mut [u32],
     out: &mut [u8],
 ) -> Written
-    ensures { λ r. ⌜ Writes (now (file .entry))
+    ensures { λ r. ⌜ WritesIn layout (now (file .entry))
         (tables (now (tokens .entry)) (now (sets .entry)) (now (names .entry)) (now (packets .entry)) (now (values .entry)))
         (tables (now (tokens .exit)) (now (sets .exit)) (now (names .exit)) (now (packets .exit)) (now (values .exit)))
         (now (out .entry)) (now (out .exit)) r ⌝ }
 {
-    let reading = star_read::read(file, tokens, sets, names, packets, values);
+    let reading = star_read::read_layout(file, layout, tokens, sets, names, packets, values);
     let written = answer(file, tokens, reading, out.len());
     if written.refusal != 0 {
         clear_all(tokens, sets, names, packets, values, out);
@@ -138,30 +135,9 @@ pub fn write(
     written
 }
 
-// Writes the plain form in the other layout, of that size, of a file that has a reading in this one and whose tokens table 1 holds; bytes past it are 0, and the table is left as it was.
-fn put_other(
+// Reads a file of today's layout into the five tables and writes its plain form. On a refusal length, counts, tables and output are all 0.
+pub fn write(
     file: &[u8],
-    layout: u32,
-    tokens: &mut [u32],
-    count: usize,
-    size: usize,
-    out: &mut [u8],
-)
-    requires { ⌜ Holds (now file) (now tokens) count ⌝ }
-    requires { ⌜ size ≡ length (plainOf (fileTokens (now file))) ⌝ }
-    requires { ⌜ size ≤ length (now out) ⌝ }
-    requires { ⌜ ReadingBy (layoutRules layout) (fileTokens (now file)) ⌝ }
-    ensures { λ _. ⌜ now (out .exit) ≡ plainOf (otherRow layout (fileTokens (now (file .entry)))) ++ replicate (length (now (out .entry)) - size) 0 ⌝ }
-    ensures { λ _. ⌜ now (tokens .exit) ≡ now (tokens .entry) ⌝ }
-{
-    put_plain(file, tokens, count, size, out);
-    frames::exchange(file, layout, tokens, count, out);
-}
-
-// Reads a file in a layout, 0 or 1, into the five tables and writes its plain form in the other. On a refusal length, counts, tables and output are all 0.
-pub fn convert(
-    file: &[u8],
-    layout: u32,
     tokens: &mut [u32],
     sets: &mut [u32],
     names: &mut [u32],
@@ -169,24 +145,10 @@ pub fn convert(
     values: &mut [u32],
     out: &mut [u8],
 ) -> Written
-    ensures { λ r. ⌜ Converts layout (now (file .entry))
+    ensures { λ r. ⌜ Writes (now (file .entry))
         (tables (now (tokens .entry)) (now (sets .entry)) (now (names .entry)) (now (packets .entry)) (now (values .entry)))
         (tables (now (tokens .exit)) (now (sets .exit)) (now (names .exit)) (now (packets .exit)) (now (values .exit)))
         (now (out .entry)) (now (out .exit)) r ⌝ }
 {
-    let reading = star_read::read_layout(file, layout, tokens, sets, names, packets, values);
-    let written = answer(file, tokens, reading, out.len());
-    if written.refusal != 0 {
-        clear_all(tokens, sets, names, packets, values, out);
-        return written;
-    }
-    put_other(
-        file,
-        layout,
-        tokens,
-        written.tokens as usize,
-        written.length as usize,
-        out,
-    );
-    written
+    write_layout(file, 0, tokens, sets, names, packets, values, out)
 }

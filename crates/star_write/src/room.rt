@@ -3,7 +3,7 @@ ghost use mathlib.Core.Path.{_≡_};
 ghost use Prim.Native.Nat.{_+_, _≤_};
 ghost use lib.ListN.{length};
 ghost use Rattle.star_rows.specs.Rows.{clearedFrom};
-ghost use Rattle.star_write.specs.Put.{Put};
+ghost use Rattle.star_write.specs.Put.{Put, within};
 
 // Puts these bytes at a place, and answers the place after them. It is called by proved layers only, which lend room enough.
 pub(crate) fn put_bytes(out: &mut [u8], at: usize, bytes: &[u8]) -> usize
@@ -16,6 +16,19 @@ pub(crate) fn put_bytes(out: &mut [u8], at: usize, bytes: &[u8]) -> usize
         i += 1;
     }
     at + i
+}
+
+// Puts these bytes at a place, and answers the place after them; where the room ends before that, nothing is put.
+pub fn put_within(out: &mut [u8], at: usize, bytes: &[u8]) -> usize
+    ensures { λ r. ⌜ Put (within (length (now (out .entry))) at (now (bytes .entry))) at (now (out .entry)) (now (out .exit)) r ⌝ }
+{
+    if out.len() < at {
+        return at;
+    }
+    if out.len() - at < bytes.len() {
+        return at;
+    }
+    put_bytes(out, at, bytes)
 }
 
 // Sets every byte from `from` on to 0.

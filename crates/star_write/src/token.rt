@@ -141,7 +141,7 @@ fn indent_length(kind: u32, content: &[u8]) -> usize
 }
 
 // How many bytes a token takes, with the line end after it.
-pub(crate) fn token_length(kind: u32, content: &[u8]) -> usize
+pub fn token_length(kind: u32, content: &[u8]) -> usize
     ensures { λ r. ⌜ r ≡ length (plainToken today (tokenOf kind (now (content .entry)))) ⌝ }
 {
     let start = indent_length(kind, content) + star_lex::word::lead(kind);

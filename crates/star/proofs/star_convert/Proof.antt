@@ -1,4 +1,4 @@
--- `star_convert` is `convert` of star_write, with its contract.
+-- `star_convert` is `convert` of star_convert, with its contract.
 use borrow.Author.Needs.{needs}
 use Rattle.star.proofs.star_convert.Statement.{statement}
 use Rattle.star.proofs.star_convert.Tie as tie

@@ -16,7 +16,7 @@ refusing-requires c κs = search needs
 returns : tie.Need-returns
 returns c =
     let start = c .before .before .before .before .before in
-    λ o row l e. c .refusing .ensures ∙ sym (ap writeAnswer (refuses-reading _ o row l _ e (start .args .room) (c .before .if1 .taken)))
+    λ layout words e. c .refusing .ensures ∙ sym (ap writeAnswer (refuses-reading layout _ words _ e (start .args .room) (c .before .if1 .taken)))
 
 cast-plain-length : tie.Need-cast-plain-length
 cast-plain-length c = search needs
@@ -30,9 +30,9 @@ refusing-requires-2 c κs = search needs
 returns-2 : tie.Need-returns-2
 returns-2 c =
     let sized = c .before .before in
-    λ o row l e.
+    λ layout words e.
     c .refusing2 .ensures
-    ∙ sym (ap writeAnswer (too-long _ o row l _ e (entry sized .args .room) (sized .before .before .if1 .left) (omega (arith, sized .plain-length .ensures))))
+    ∙ sym (ap writeAnswer (too-long layout _ words _ e (entry sized .args .room) (sized .before .before .if1 .left) (omega (arith, sized .plain-length .ensures))))
 
 refusing-requires-3 : tie.Need-refusing-requires-3
 refusing-requires-3 c κs = search needs
@@ -41,9 +41,9 @@ returns-3 : tie.Need-returns-3
 returns-3 c =
     let sized = c .before .before .before in
     let size = sized .plain-length .ensures in
-    λ o row l e.
+    λ layout words e.
     c .refusing3 .ensures
-    ∙ sym (ap writeAnswer (too-short _ o row l _ e (entry sized .args .room) (sized .before .before .if1 .left) (omega (arith, size)) (omega (arith, size))))
+    ∙ sym (ap writeAnswer (too-short layout _ words _ e (entry sized .args .room) (sized .before .before .if1 .left) (omega (arith, size)) (omega (arith, size))))
 
 cast-t8 : tie.Need-cast-t8
 cast-t8 c = search needs
@@ -52,9 +52,9 @@ returns-4 : tie.Need-returns-4
 returns-4 c =
     let sized = c .before .before in
     let size = sized .plain-length .ensures in
-    λ o row l e.
+    λ layout words e.
     ap (λ n. counted n (entry sized .args .reading)) size
-    ∙ fits-output _ o row l _ e (entry sized .args .room) (sized .before .before .if1 .left) (omega (arith, size)) (omega (arith, size))
+    ∙ fits-output layout _ words _ e (entry sized .args .room) (sized .before .before .if1 .left) (omega (arith, size)) (omega (arith, size))
 
 pub answer-spec : {M : Type 1} → statement M
 answer-spec =
