@@ -12,8 +12,10 @@ use Rattle.star_read.proofs.RefusalNumber.{refusal-number, numbers-exclude, glo
 use Rattle.star_read.proofs.Settled.{reading-settled, one-outcome}
 use Rattle.star_read.proofs.Windows.{windows-reads}
 use Rattle.star_read.proofs.Longest.{old-files-read-as-before, old-bench-refuses, old-bench-same-or-four}
-use Rattle.star_find.proofs.Demand1.{lookups-answer, values-answer, span-part}
-use Rattle.star_find.proofs.Lookup.{lookup-by-name, lookup-block, lookup-frame, values-in-order, column as links-column}
+use Rattle.star_find.proofs.Demand1.{lookups-answer}
+use Rattle.star_find.proofs.Lookup.{lookup-by-name, lookup-block, lookup-frame}
+use Rattle.star_value.proofs.Demand1.{values-answer, span-part}
+use Rattle.star_value.proofs.InOrder.{values-in-order, column as links-column}
 use Rattle.star_number.proofs.Exactly.{number-exact, number-pieces}
 use Rattle.star_number.proofs.Exactness.{whole-exact, power-exact, rounded-once}
 use Rattle.star_number.proofs.Finite.{floats-finite}

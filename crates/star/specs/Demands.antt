@@ -6,7 +6,8 @@ use Rattle.star_text.specs.Demands.{CompareEqual, ComparePairs, CompareStops}
 use Rattle.star_lex.specs.Rules.{today, rules1991, layoutRules, oldBench}
 use Rattle.star_lex.specs.Demands.{NoPairAsBefore, WindowsSplits}
 use Rattle.star_read.specs.Demands.{Usable, AcceptedExactly, OneReading, RowsOfReading, PlaceOfRefusal, RefusalNumber, NumbersExclude, GlobalNumber, SaveNumber, ReadingSettled, OneOutcome, ReadAnswers, ByLayout, WindowsReads, OldFilesReadAsBefore, OldBenchRefuses, OldBenchSameOrFour}
-use Rattle.star_find.specs.Demands.{LookupByName, LookupBlock, LookupFrame, ValuesInOrder, Column, SpanPart, LookupsAnswer, ValuesAnswer}
+use Rattle.star_find.specs.Demands.{LookupByName, LookupBlock, LookupFrame, LookupsAnswer}
+use Rattle.star_value.specs.Demands.{ValuesInOrder, Column, SpanPart, ValuesAnswer}
 use Rattle.star_number.specs.Demands.{NumberExact, NumberPieces, WholeExact, PowerExact, RoundedOnce, FloatsFinite, NumbersKnown, NumbersInOrder, NumbersAnswer}
 use Rattle.star_write.specs.Demands.{RoundTrip, WritesAgain, WriteAnswers}
 use Rattle.star_convert.specs.Demands.{OverAndBack, ConvertedReads, ConvertAnswers}

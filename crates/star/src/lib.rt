@@ -2,17 +2,18 @@
 use star_check::Checked;
 use star_find::Counts;
 use star_find::Found;
-use star_find::Span;
-use star_find::Value;
 use star_number::Form;
 use star_number::ValueForm;
 use star_read::Answer;
 use star_text::Comparison;
+use star_value::Span;
+use star_value::Value;
 use star_write::Written;
 ghost use mathlib.Core.Path.{_≡_};
 ghost use Rattle.star_text.specs.Compare.{compareOf};
 ghost use Rattle.star_read.specs.Answer.{tables, ReadsIn};
-ghost use Rattle.star_find.specs.Find.{lent, findBlock, findFrame, findName, valueAt, valueSpan};
+ghost use Rattle.star_find.specs.Find.{lent, findBlock, findFrame, findName};
+ghost use Rattle.star_value.specs.Values.{valueAt, valueSpan};
 ghost use Rattle.star_index.specs.Index.{Checks, Builds};
 ghost use Rattle.star_index.specs.Lookup.{findSlot};
 ghost use Rattle.star_number.specs.Taken.{numberIn};
@@ -140,7 +141,7 @@ pub extern "C" fn star_value_at(
     ensures { λ r. ⌜ r ≡ valueAt (lent (now (file .entry)) (now (tokens .entry)) (now (sets .entry)) (now (names .entry)) (now (packets .entry))
         (now (values .entry))) counts name k ⌝ }
 {
-    star_find::value_at(file, tokens, sets, names, packets, values, counts, name, k)
+    star_value::value_at(file, tokens, sets, names, packets, values, counts, name, k)
 }
 
 // Where the k-th value of a name row, k from 1, lies in the file; 0 and 0 where it is refused.
@@ -159,7 +160,7 @@ pub extern "C" fn star_value_part(
     ensures { λ r. ⌜ r ≡ valueSpan (lent (now (file .entry)) (now (tokens .entry)) (now (sets .entry)) (now (names .entry)) (now (packets .entry))
         (now (values .entry))) counts name k ⌝ }
 {
-    star_find::value_span(file, tokens, sets, names, packets, values, counts, name, k)
+    star_value::value_span(file, tokens, sets, names, packets, values, counts, name, k)
 }
 
 // What a value of this kind and content is as a number.

@@ -142,11 +142,11 @@ fn look_at_value<'a, 'b>(
     name: u32,
     k: u32,
 ) {
-    let value = star_find::value_at(file, tokens, sets, names, packets, values, counts, name, k);
+    let value = star_value::value_at(file, tokens, sets, names, packets, values, counts, name, k);
     print::bar();
     print::three(value.refusal, value.kind, value.packet);
     print::bar();
-    let part = star_find::value_part(file, tokens, sets, names, packets, values, counts, name, k);
+    let part = star_value::value_part(file, tokens, sets, names, packets, values, counts, name, k);
     print::escaped(part, part.len());
 }
 

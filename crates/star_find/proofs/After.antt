@@ -5,15 +5,13 @@ use mathlib.Core.Bool.{true}
 use mathlib.Core.List.{List, [], map, map-map}
 use mathlib.Core.Option.{some}
 use Prim.Native.Nat.{ℕ, _-_, _≤_}
-use native.Mathlib.Nat.{add-zero}
 use native.Mathlib.Omega.{arith}
 use borrow.Author.Tests.{le-leb}
 use lib.ListN.{length, getD, length-map, List·getD-map}
 use Rattle.star_text.specs.Outcome.{accepted}
 use Rattle.star_lex.specs.Rules.{layoutRules}
-use Rattle.star_rows.specs.Rows.{holding, wordOf}
-use Rattle.star_rows.proofs.Held.{holding-room, held-word}
-use Rattle.star_rows.proofs.Words.{word-row}
+use Rattle.star_rows.specs.Rows.{holding}
+use Rattle.star_rows.proofs.Held.{holding-room}
 use Rattle.star_text.specs.Names.{key}
 use Rattle.star_lex.specs.Tokens.{Placed, tokenRow}
 use Rattle.star_lex.specs.Split.{placed}
@@ -25,14 +23,14 @@ use Rattle.star_grammar.proofs.Widths.{set-wide, name-wide, packet-wide, value-
 use Rattle.star_grammar.proofs.Linked.{Linked, tree-linked}
 use Rattle.star_grammar.proofs.RowsOf.{contentIn, nameIn, setIn, fileNames, fileSets, IsToken, Inside, TreeRows, tree-rows}
 use Rattle.star_lex.specs.Holds.{tokenAt}
-use Rattle.star_lex.proofs.Held.{nowhere, Row, held-row, held-some}
+use Rattle.star_lex.proofs.Held.{Row, held-row, held-some}
 use Rattle.star_read.specs.Read.{Sizes, tokensOnly, readIn}
 use Rattle.star_read.proofs.Demand3.{rows-of-reading, one-reading}
 use Rattle.star_read.proofs.InLayout.{layout-usable, in-accepted}
 use Rattle.star_read.proofs.Accepted.{split-in, holds-in}
 use Rattle.star_read.specs.Answer.{readAnswer, tablesOf}
-use Rattle.star_find.specs.Find.{Lent, fits, isRow, contentAt, countsFit, spanAt}
-use Rattle.star_find.specs.Demands.{lentAfter, countsAfter, contentOf, tokenKind, spanOf}
+use Rattle.star_find.specs.Find.{Lent, fits, isRow, contentAt, countsFit}
+use Rattle.star_find.specs.Demands.{lentAfter, countsAfter, contentOf}
 use Rattle.star_find.specs.declared.Counts.{Counts}
 
 -- the file and the five tables that hold these rows, and their counts
@@ -89,12 +87,6 @@ content-at ps row =
     sym (List·getD-map (λ t. t .content) (tokensOnly ps) (row - 1) (record { kind = 0; content = [] }))
     ∙ ap (λ cs. getD cs (row - 1) []) (map-map (λ t. t .content) (λ p. p .token) ps)
 
-kind-at : (ps : List Placed) (row : ℕ) → getD (tokensOnly ps) (row - 1) (record { kind = 0; content = [] }) .kind ≡ tokenKind ps row
-unfolding tokenKind
-kind-at ps row =
-    sym (List·getD-map (λ t. t .kind) (tokensOnly ps) (row - 1) (record { kind = 0; content = [] }))
-    ∙ ap (λ ks. getD ks (row - 1) 0) (map-map (λ t. t .kind) (λ p. p .token) ps)
-
 pub content-in : (ps : List Placed) (row : ℕ) → contentIn (tokensOnly ps) row ≡ key (contentOf ps row)
 unfolding contentOf key
 content-in ps row =
@@ -102,10 +94,10 @@ content-in ps row =
     ∙ List·getD-map key (map (λ p. p .token .content) ps) (row - 1) []
 
 module _ (layout : ℕ) (file : List ℕ) (words : Sizes) (ps : List Placed) (rows : Rows) (e : readIn layout file words ≡ accepted (ps, rows)) (row : ℕ) (is : IsToken (length ps) row) where
-  token-row : Row file (holding tokenRow ps (words .tokens)) (row - 1)
+  pub token-row : Row file (holding tokenRow ps (words .tokens)) (row - 1)
   token-row = held-row file (holding tokenRow ps (words .tokens)) (length ps) (holds-in layout file words ps rows e) (row - 1) (omega (arith, is .0, is .1))
 
-  token-at : tokenAt file (row - 1) ≡ getD (tokensOnly ps) (row - 1) (record { kind = 0; content = [] })
+  pub token-at : tokenAt file (row - 1) ≡ getD (tokensOnly ps) (row - 1) (record { kind = 0; content = [] })
   unfolding placed
   token-at = rw (split-in layout file words ps rows e)
 
@@ -119,23 +111,6 @@ module _ (layout : ℕ) (file : List ℕ) (words : Sizes) (ps : List Placed) (ro
         held-some file (holding tokenRow ps (words .tokens)) (length ps) (holds-in layout file words ps rows e) (row - 1) (omega (arith, is .0, is .1)),
         token-at,
         content-at,
-      )
-
-  pub token-kind : wordOf (holding tokenRow ps (words .tokens)) 3 row 0 ≡ tokenKind ps row
-  token-kind = rw (word-row (holding tokenRow ps (words .tokens)) 3 row 0 (is .0), add-zero, token-row .kind, token-at, kind-at)
-
-  -- and its span
-  pub token-span : spanAt (holding tokenRow ps (words .tokens)) row ≡ spanOf ps row
-  unfolding spanAt spanOf tokenRow tokenKind contentOf
-  token-span =
-      rw (
-        word-row (holding tokenRow ps (words .tokens)) 3 row 1 (is .0),
-        word-row (holding tokenRow ps (words .tokens)) 3 row 2 (is .0),
-        held-word 3 tokenRow row-wide nowhere ps (words .tokens) (row - 1) 1 (omega (arith, is .0, is .1)) (omega arith),
-        held-word 3 tokenRow row-wide nowhere ps (words .tokens) (row - 1) 2 (omega (arith, is .0, is .1)) (omega arith),
-        List·getD-map (λ p. p .at) ps (row - 1) nowhere,
-        List·getD-map (λ p. p .token .kind) ps (row - 1) nowhere,
-        List·getD-map (λ p. p .token .content) ps (row - 1) nowhere,
       )
 
 -- the rows after acceptance, against the reading's tree

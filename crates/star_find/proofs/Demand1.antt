@@ -1,5 +1,4 @@
--- Demand 1, of lookup: a search answers one of its rows, 13 or 14; a value that is located has a part within the file.
-use mathlib.Core.Path.{_≡_, refl}
+-- Demand 1, of lookup: a search answers one of its rows, 13 or 14.
 use mathlib.Core.Bool.{Bool, true, false, cond}
 use mathlib.Core.List.{List}
 use mathlib.Core.Option.{Option, none, some}
@@ -7,18 +6,12 @@ use Prim.Native.Nat.{ℕ, zero, suc, _+_, _-_, _≤_}
 use native.Mathlib.Nat.{add-suc, suc-add, zero-add}
 use native.Mathlib.Omega.{arith}
 use lib.Dec.{eqb}
-use lib.ListN.{take, drop}
 use Rattle.star_rows.specs.Rows.{wordOf}
-use Rattle.star_lex.specs.Table.{orEmpty}
 use Rattle.star_text.specs.Names.{same}
-use Rattle.star_find.specs.Find.{Lent, isRow, contentAt, found, refused, meet, seek, isWanted, look, countsFit, rowThere, ownName, orElse, askGlobals, askOn, findName, findBlock, findFrame, missing, locate, valueOf, valueAt, valuePart, spanAt, valueSpan}
-use Rattle.star_find.specs.Demands.{RowAnswer, LookupsAnswer, ValueAnswer, ValuesAnswer, SpanPart}
+use Rattle.star_find.specs.Find.{Lent, contentAt, found, refused, meet, seek, isWanted, look, countsFit, rowThere, ownName, orElse, askGlobals, askOn, findName, findBlock, findFrame}
+use Rattle.star_find.specs.Demands.{RowAnswer, LookupsAnswer}
 use Rattle.star_find.specs.declared.Counts.{Counts}
 use Rattle.star_find.specs.declared.Found.{Found}
-use Rattle.star_find.specs.declared.Located.{Located}
-use Rattle.star_find.specs.declared.Value.{Value}
-use Rattle.star_find.specs.declared.Span.{Span}
-use Rattle.star_find.proofs.Looking.{Inside, part-inside, Locates, locates}
 
 pub answer-cond : {rows : ℕ} {a b : Found} (t : Bool) → RowAnswer rows a → RowAnswer rows b → RowAnswer rows (cond t a b)
 answer-cond true p q = p
@@ -78,22 +71,3 @@ lookups-answer l c = (
   λ set code. answer-cond (rowThere l c (c .sets) set) (look-answers l c (l .sets) 3 2 true set code (c .sets)) outside,
   λ set name. answer-cond (rowThere l c (c .sets) set) (on-answers (l .sets) (ownName l c name) (own-answers l c name) set) outside,
 )
-
-pub values-answer : ValuesAnswer
-unfolding valueAt valueSpan valuePart valueOf spanAt orEmpty missing wordOf contentAt isRow
-values-answer l c name k = by (locate l c name k) refl (locates l c name k)
-  where
-    by : (f : Located) → locate l c name k ≡ f → Locates l c f → ValueAnswer (l .file) (valueAt l c name k) (valueSpan l c name k) (valuePart l c name k)
-    by _ e (Locates.at packet token h) =
-        let p : Inside (l .file) (l .tokens) (c .tokens) token = part-inside _ _ _ _ h in
-        rw (e, p .content-is) (ValueAnswer.at _ _ _ _ (p .ordered) (p .within))
-    by _ e Locates.nowhere = rw e ValueAnswer.nowhere
-    by _ e Locates.outside = rw e ValueAnswer.outside
-
-answer-part : {file : List ℕ} {v : Value} {s : Span} {part : List ℕ} → ValueAnswer file v s part → take (s .end - s .start) (drop (s .start) file) ≡ part
-answer-part (ValueAnswer.at kind packet start end ordered within) = refl
-answer-part ValueAnswer.nowhere = refl
-answer-part ValueAnswer.outside = refl
-
-pub span-part : SpanPart
-span-part l c name k = answer-part (values-answer l c name k)

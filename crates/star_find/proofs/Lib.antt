@@ -6,7 +6,5 @@ pub mod Answers
 pub mod Numbered
 pub mod After
 pub mod Distinct
-pub mod Links
-pub mod Values
 pub mod Lookup
 pub mod Demand1

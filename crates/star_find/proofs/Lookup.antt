@@ -22,17 +22,15 @@ use Rattle.star_grammar.proofs.Widths.{name-wide, set-wide}
 use Rattle.star_grammar.proofs.RowsOf.{contentIn, nameIn, setIn, fileSets, IsToken}
 use Rattle.star_lex.proofs.Each.{each-at}
 use Rattle.star_read.specs.Read.{Sizes, tokensOnly, readIn}
-use Rattle.star_read.specs.Answer.{readAnswer, tablesOf}
 use Rattle.star_find.specs.Find.{rowThere, ownName, askGlobals, askOn, findName, findBlock, findFrame, isRow, look, refused}
-use Rattle.star_find.specs.Demands.{contentOf, HoldsName, FirstName, blockKinds, IsKind, EarlierHolds, Reaches, NameOf, LookupByName, SetWith, LookupBlock, HoldsFrame, LookupFrame, ValuesInOrder, Column}
+use Rattle.star_find.specs.Demands.{contentOf, HoldsName, FirstName, blockKinds, IsKind, EarlierHolds, Reaches, NameOf, LookupByName, SetWith, LookupBlock, HoldsFrame, LookupFrame}
 use Rattle.star_find.specs.declared.Found.{Found}
 use Rattle.star_find.proofs.Seeking.{Sought, sought-alike, sought-either, FirstOf, asked, asked-first, asked-parent, look-sought}
 use Rattle.star_find.proofs.Looking.{row-bounds}
 use Rattle.star_find.proofs.Answers.{Answers, place-made, answers}
 use Rattle.star_find.proofs.Asking.{or-first, or-second, NoneAfter, Asked, asked as globals-asked}
 use Rattle.star_find.proofs.Numbered.{holds-name, sets-count, set-kinds, holds-frame, sets-count-codes, block-code, code-block}
-use Rattle.star_find.proofs.After.{left, counted, lent-left, counts-counted, counts-fit, row-inside, content-in, token-content, RowsAfter, reading-in, rows-after}
-use Rattle.star_find.proofs.Values.{chain-left, value-found, value-none}
+use Rattle.star_find.proofs.After.{left, counted, lent-left, counts-counted, counts-fit, row-inside, content-in, token-content, RowsAfter, rows-after}
 
 -- no row, which stands where there is none
 abbrev noName : NameRow
@@ -306,15 +304,3 @@ lookup-frame layout file words ps rows e r set code =
     (findFrame (left file words ps rows) (counted ps rows) set code)
     = frame-answers layout file words ps rows e (r .tree) (rows-after layout file words ps rows e r) set code in
     rw (lent-left layout file words ps rows e, counts-counted layout file words ps rows e) (a .0, λ h. set-with ps rows 2 set code _ (a .1 h))
-
-pub values-in-order : ValuesInOrder
-values-in-order layout file words ps rows e name low high =
-    let k : RowsAfter ps rows _ = rows-after layout file words ps rows e (reading-in layout file words ps rows e .0) in
-    rw (lent-left layout file words ps rows e, counts-counted layout file words ps rows e)
-    (value-found layout file words ps rows e (k .linked) (k .inside) name low high, value-none layout file words ps rows e (k .linked) (k .inside) name low high)
-
-pub column : Column
-unfolding tablesOf readAnswer left counted
-column layout file words ps rows e name =
-    let k : RowsAfter ps rows _ = rows-after layout file words ps rows e (reading-in layout file words ps rows e .0) in
-    rw e (chain-left file words ps rows (k .linked) name)

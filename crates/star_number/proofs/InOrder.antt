@@ -1,12 +1,12 @@
 -- The numbers of a name row are those of its values, and any lookup answers a number, 13 or 14.
 use mathlib.Core.List.{List}
 use Prim.Native.Nat.{ℕ}
-use Rattle.star_find.specs.Find.{valueAt, valuePart, valueSpan}
-use Rattle.star_find.specs.Demands.{ValueAnswer, at, nowhere, outside}
-use Rattle.star_find.specs.declared.Value.{Value}
-use Rattle.star_find.specs.declared.Span.{Span}
-use Rattle.star_find.proofs.Lookup.{values-in-order}
-use Rattle.star_find.proofs.Demand1.{values-answer}
+use Rattle.star_value.specs.Values.{valueAt, valuePart, valueSpan}
+use Rattle.star_value.specs.Demands.{ValueAnswer, at, nowhere, outside}
+use Rattle.star_value.specs.declared.Value.{Value}
+use Rattle.star_value.specs.declared.Span.{Span}
+use Rattle.star_value.proofs.InOrder.{values-in-order}
+use Rattle.star_value.proofs.Demand1.{values-answer}
 use Rattle.star_number.specs.Taken.{numberIn}
 use Rattle.star_number.specs.Forms.{valueNumber, valueNumberOf, valueFormOf}
 use Rattle.star_number.specs.Demands.{NumbersInOrder, NumberAnswer, given, nowhere as number-nowhere, outside as number-outside, NumbersAnswer}

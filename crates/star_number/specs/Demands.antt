@@ -15,7 +15,8 @@ use Rattle.star_lex.specs.Tokens.{Placed}
 use Rattle.star_grammar.specs.Tables.{Rows, ValueRow}
 use Rattle.star_read.specs.Read.{Sizes, readIn}
 use Rattle.star_find.specs.Find.{Lent}
-use Rattle.star_find.specs.Demands.{lentAfter, countsAfter, ofName, tokenKind, contentOf}
+use Rattle.star_find.specs.Demands.{lentAfter, countsAfter, contentOf}
+use Rattle.star_value.specs.Demands.{ofName, tokenKind}
 use Rattle.star_find.specs.declared.Counts.{Counts}
 use Rattle.star_number.specs.Pieces.{Pieces, Written}
 use Rattle.star_number.specs.Number.{mostWhole, mostPower, exact, scaled, numberOf, Says}

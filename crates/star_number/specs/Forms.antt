@@ -5,9 +5,10 @@ use Prim.Native.Nat.{ℕ}
 use lib.Dec.{eqb}
 use lib.IntN.{pos}
 use lib.Ieee.{Float as F64, fin}
-use Rattle.star_find.specs.Find.{Lent, valueAt, valuePart}
+use Rattle.star_find.specs.Find.{Lent}
+use Rattle.star_value.specs.Values.{valueAt, valuePart}
 use Rattle.star_find.specs.declared.Counts.{Counts}
-use Rattle.star_find.specs.declared.Value.{Value}
+use Rattle.star_value.specs.declared.Value.{Value}
 use Rattle.star_number.specs.Taken.{numberIn}
 use Rattle.star_number.specs.declared.Number.{Number}
 use Rattle.star_number.specs.declared.Number.the-variants.{Float, Uncertain, Unknown, NotApplicable, TooWide, Text}

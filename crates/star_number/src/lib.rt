@@ -157,7 +157,7 @@ pub fn value_number(
     ensures { λ r. ⌜ r ≡ valueNumber (lent (now (file .entry)) (now (tokens .entry)) (now (sets .entry)) (now (names .entry)) (now (packets .entry))
         (now (values .entry))) counts name k ⌝ }
 {
-    let found = star_find::locate(file, tokens, sets, names, packets, values, counts, name, k);
+    let found = star_value::locate(file, tokens, sets, names, packets, values, counts, name, k);
     let refusal = found.refusal;
     if refusal != 0 {
         return ValueNumber::Refused(refusal);

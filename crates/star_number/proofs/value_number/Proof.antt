@@ -2,7 +2,7 @@
 use mathlib.Core.Path.{_≡_, sym}
 use native.Mathlib.Omega.{arith}
 use borrow.Author.Tests.{eq-eqb, ne-eqb}
-use Rattle.star_find.specs.Find.{valueAt, valueOf, valuePart}
+use Rattle.star_value.specs.Values.{valueAt, valueOf, valuePart}
 use Rattle.star_number.specs.Forms.{valueNumber, valueNumberOf}
 use borrow.Author.Needs.{needs}
 use Rattle.star_number.proofs.value_number.Statement.{statement}

@@ -1,10 +1,10 @@
 -- `locate` meets its contract: the checks stand in the order of the definition.
 use mathlib.Core.Path.{sym, _∙_}
 use borrow.Author.Tests.{eq-eqb, ne-eqb, not-true, not-false}
-use Rattle.star_find.specs.Find.{locate, located, missing}
+use Rattle.star_value.specs.Values.{locate, located, missing}
 use borrow.Author.Needs.{needs}
-use Rattle.star_find.proofs.locate.Statement.{statement}
-use Rattle.star_find.proofs.locate.Tie as tie
+use Rattle.star_value.proofs.locate.Statement.{statement}
+use Rattle.star_value.proofs.locate.Tie as tie
 
 row-there-requires : tie.Need-row-there-requires
 row-there-requires c κs = search needs

@@ -4,10 +4,11 @@ use Prim.Native.Nat.{_-_, _<_}
 use native.Mathlib.Omega.{arith}
 use borrow.Author.Needs.{needs}
 use borrow.Author.Tests.{eq-eqb, ne-eqb}
-use Rattle.star_find.specs.Find.{refused, follow}
-use Rattle.star_find.proofs.Looking.{value-zero, value-first}
-use Rattle.star_find.proofs.value_row.Statement.{statement}
-use Rattle.star_find.proofs.value_row.Tie as tie
+use Rattle.star_find.specs.Find.{refused}
+use Rattle.star_value.specs.Values.{follow}
+use Rattle.star_value.proofs.Locating.{value-zero, value-first}
+use Rattle.star_value.proofs.value_row.Statement.{statement}
+use Rattle.star_value.proofs.value_row.Tie as tie
 
 returns : tie.Need-returns
 unfolding refused

@@ -4,10 +4,10 @@ use Prim.Native.Nat.{_+_, _-_, _≤_, _<_}
 use native.Mathlib.Nat.{sub-zero}
 use native.Mathlib.Omega.{arith}
 use borrow.Author.Needs.{needs}
-use Rattle.star_find.specs.Find.{firstValue}
-use Rattle.star_find.proofs.Looking.{first-here, first-later, first-over}
-use Rattle.star_find.proofs.first_value.Statement.{statement}
-use Rattle.star_find.proofs.first_value.Tie as tie
+use Rattle.star_value.specs.Values.{firstValue}
+use Rattle.star_value.proofs.Locating.{first-here, first-later, first-over}
+use Rattle.star_value.proofs.first_value.Statement.{statement}
+use Rattle.star_value.proofs.first_value.Tie as tie
 
 abbrev Inv-loop : tie.InvT-loop
 Inv-loop values rows name row₀ row = (row ≤ rows) × (firstValue values name (rows - row) (row + 1) ≡ firstValue values name rows 1)

@@ -14,9 +14,10 @@ use Rattle.star_rows.specs.Rows.{wordOf}
 use Rattle.star_grammar.specs.Tables.{ValueRow, valueWords, firstOf}
 use Rattle.star_grammar.proofs.Linked.{Linked}
 use Rattle.star_grammar.proofs.Linking.{noValue}
-use Rattle.star_find.specs.Find.{found, refused, firstValue, isLink, follow, valueRow}
-use Rattle.star_find.specs.Demands.{ofName, numbersOf, Chain}
+use Rattle.star_find.specs.Find.{found, refused}
+use Rattle.star_value.specs.Values.{firstValue, isLink, follow, valueRow}
+use Rattle.star_value.specs.Demands.{ofName, numbersOf, Chain}
 use Rattle.star_find.specs.declared.Found.{Found}
 
 module _ (values : List ℕ) where
   -- the rows of the table from this number on are of these names, each with the next row of its name

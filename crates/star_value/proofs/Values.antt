@@ -20,12 +20,15 @@ use Rattle.star_grammar.proofs.Linking.{noValue}
 use Rattle.star_grammar.proofs.RowsOf.{IsToken, Inside}
 use Rattle.star_lex.proofs.Each.{each-at}
 use Rattle.star_read.specs.Read.{Sizes, readIn}
-use Rattle.star_find.specs.Find.{isRow, contentAt, rowThere, found, refused, firstValue, valueRow, missing, located, locate, valueOf, valueAt, valuePart, spanAt, valueSpan}
-use Rattle.star_find.specs.Demands.{contentOf, tokenKind, spanOf, ofName, numbersOf, Chain}
+use Rattle.star_find.specs.Find.{isRow, contentAt, rowThere, found, refused}
+use Rattle.star_value.specs.Values.{firstValue, valueRow, missing, located, locate, valueOf, valueAt, valuePart, spanAt, valueSpan}
+use Rattle.star_find.specs.Demands.{contentOf}
+use Rattle.star_value.specs.Demands.{tokenKind, spanOf, ofName, numbersOf, Chain}
 use Rattle.star_find.specs.declared.Found.{Found}
-use Rattle.star_find.specs.declared.Located.{Located}
-use Rattle.star_find.proofs.Links.{Links, words-links, first-is, chain-from, value-row-is, value-row-none}
-use Rattle.star_find.proofs.After.{left, counted, counts-fit, row-inside, token-content, token-kind, token-span}
+use Rattle.star_value.specs.declared.Located.{Located}
+use Rattle.star_value.proofs.Links.{Links, words-links, first-is, chain-from, value-row-is, value-row-none}
+use Rattle.star_find.proofs.After.{left, counted, counts-fit, row-inside, token-content}
+use Rattle.star_value.proofs.TokenRows.{token-kind, token-span}
 
 -- a value that is found
 abbrev placed : ValueRow → Located

@@ -1,11 +1,11 @@
 -- `value_part` meets its contract: the part is that of the value that was located, or empty, as row 0 has none.
 use mathlib.Core.Path.{sym, _∙_, ap}
 use Rattle.star_lex.specs.Table.{further}
-use Rattle.star_find.specs.Find.{valuePart, valueSpan, spanAt}
-use Rattle.star_find.proofs.Looking.{located-start}
+use Rattle.star_value.specs.Values.{valuePart, valueSpan, spanAt}
+use Rattle.star_value.proofs.Locating.{located-start}
 use borrow.Author.Needs.{needs}
-use Rattle.star_find.proofs.value_part.Statement.{statement}
-use Rattle.star_find.proofs.value_part.Tie as tie
+use Rattle.star_value.proofs.value_part.Statement.{statement}
+use Rattle.star_value.proofs.value_part.Tie as tie
 
 locate-requires : tie.Need-locate-requires
 locate-requires c κs = search needs

@@ -5,9 +5,9 @@ use native.Mathlib.Omega.{arith}
 use borrow.Author.Tests.{le-ltb, lt-ltb, le-leb, lt-leb}
 use borrow.Author.Needs.{needs}
 use Rattle.star_rows.specs.Rows.{wordOf}
-use Rattle.star_find.specs.Find.{isLink}
-use Rattle.star_find.proofs.is_link.Statement.{statement}
-use Rattle.star_find.proofs.is_link.Tie as tie
+use Rattle.star_value.specs.Values.{isLink}
+use Rattle.star_value.proofs.is_link.Statement.{statement}
+use Rattle.star_value.proofs.is_link.Tie as tie
 
 returns : tie.Need-returns
 unfolding isLink

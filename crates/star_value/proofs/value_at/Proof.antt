@@ -1,9 +1,9 @@
 -- `value_at` meets its contract: the words are those of the value that was located.
 use mathlib.Core.Path.{sym}
-use Rattle.star_find.specs.Find.{valueAt, valueOf}
+use Rattle.star_value.specs.Values.{valueAt, valueOf}
 use borrow.Author.Needs.{needs}
-use Rattle.star_find.proofs.value_at.Statement.{statement}
-use Rattle.star_find.proofs.value_at.Tie as tie
+use Rattle.star_value.proofs.value_at.Statement.{statement}
+use Rattle.star_value.proofs.value_at.Tie as tie
 
 locate-requires : tie.Need-locate-requires
 locate-requires c κs = search needs

@@ -4,10 +4,11 @@ use Prim.Native.Nat.{_<_}
 use native.Mathlib.Omega.{arith}
 use borrow.Author.Needs.{needs}
 use borrow.Author.Tests.{not-true, not-false}
-use Rattle.star_find.specs.Find.{found, refused, follow}
-use Rattle.star_find.proofs.Looking.{follow-done, follow-end, follow-outside, follow-link}
-use Rattle.star_find.proofs.follow.Statement.{statement}
-use Rattle.star_find.proofs.follow.Tie as tie
+use Rattle.star_find.specs.Find.{found, refused}
+use Rattle.star_value.specs.Values.{follow}
+use Rattle.star_value.proofs.Locating.{follow-done, follow-end, follow-outside, follow-link}
+use Rattle.star_value.proofs.follow.Statement.{statement}
+use Rattle.star_value.proofs.follow.Tie as tie
 
 abbrev Inv-loop : tie.InvT-loop
 Inv-loop values rows name links row left₀ at₀ left at = follow values rows name left at ≡ follow values rows name links row
