@@ -282,7 +282,7 @@ pub struct Compared {
 pub fn read_tokens(file: &[u8], layout: u32, table: &mut [u32]) -> Compared
     ensures { λ r. ⌜ Compares layout (now (file .entry)) (now (table .entry)) (now (table .exit)) r ⌝ }
 {
-    let found = star_lex::read_tokens(file, table);
+    let found = star_split::read_tokens(file, table);
     if found.refusal != 0 {
         return Compared {
             refusal: found.refusal,
