@@ -20,7 +20,7 @@ use Rattle.star_lex.specs.Rules.{Rules, today}
 use Rattle.star_lex.specs.Split.{quoted, lineEnd, closes, field, starts, whiteNext}
 use Rattle.star_lex.specs.Answer.{endOf}
 use Rattle.star_lex.specs.LineEnd.{LineEnd}
-use Rattle.star_lex.proofs.LineEnds.{starts-inside, line-end-one, line-end-two, line-end-some, closes-not}
+use Rattle.star_lex.proofs.LineEnds.{starts-inside, line-end-one, line-end-two, closes-not}
 
 module _ (file : List ℕ) (at : ℕ) where
   pub white-in : at < length file → whiteNext (drop at file) ≡ isWhite (getD file at 0)
@@ -112,9 +112,6 @@ module _ (rules : Rules) (file : List ℕ) (at : ℕ) (inside : at < length file
 
   pub line-end-lone : (rules .pairs && (eqb (getD file at 0) 13 && starts 10 (drop (at + 1) file))) ≡ false → lineEnd rules (drop at file) ≡ 1
   line-end-lone e = rw (drop-cons file at 0 inside, ← add-one at) (line-end-one rules (getD file at 0) (drop (at + 1) file) ends e)
-
-  pub line-end-takes : 1 ≤ lineEnd rules (drop at file)
-  line-end-takes = rw (drop-cons file at 0 inside) (line-end-some rules (getD file at 0) (drop (suc at) file) ends)
 
 closes-after : (rules : Rules) (file : List ℕ) (at : ℕ) → lineEnd rules (drop at file) ≡ 1 → closes rules (drop at file) ≡ starts 59 (drop (at + 1) file)
 unfolding closes

@@ -11,7 +11,6 @@ use Rattle.star_text.specs.Bytes.{isTerminate}
 use Rattle.star_lex.specs.Rules.{Rules}
 use Rattle.star_lex.specs.Split.{starts, lineEnd, closes, closeLength}
 use Rattle.star_lex.specs.Plain.{ends}
-use Rattle.star_lex.proofs.Cases.{cond-by}
 
 pub terminate-not-semicolon : (z : ℕ) → isTerminate z ≡ true → eqb z 59 ≡ false
 unfolding isTerminate
@@ -65,17 +64,6 @@ module _ (rules : Rules) where
   pub line-end-two : (b : ℕ) (bs : List ℕ) → (rules .pairs && (eqb b 13 && starts 10 bs)) ≡ true → lineEnd rules (b ∷ bs) ≡ 2
   unfolding lineEnd
   line-end-two b bs e = rw e
-
-  pub line-end-short : (bs : List ℕ) → lineEnd rules bs ≤ 2
-  unfolding lineEnd
-  line-end-short [] = omega arith
-  line-end-short (b ∷ bs) =
-      cond-by (λ n. n ≤ 2) (rules .pairs && (eqb b 13 && starts 10 bs)) _ _ (λ e. omega arith)
-      (λ e. cond-by (λ n. n ≤ 2) (isTerminate b) _ _ (λ f. omega arith) (λ f. omega arith))
-
-  pub line-end-some : (b : ℕ) (bs : List ℕ) → isTerminate b ≡ true → 1 ≤ lineEnd rules (b ∷ bs)
-  unfolding lineEnd
-  line-end-some b bs e = rw e (cond-by (λ n. 1 ≤ n) (rules .pairs && (eqb b 13 && starts 10 bs)) _ _ (λ p. omega arith) (λ p. omega arith))
 
   -- a text field closes where the line ends before `;`
   pub closes-not : (b : ℕ) (bs : List ℕ) → isTerminate b ≡ false → closes rules (b ∷ bs) ≡ false

@@ -1,5 +1,5 @@
--- What the functions of star_lex answer, in terms of the split: refusals 1 and 7 before and after it, and the contract of `read_tokens` (`Splits`). For contracts: star_lex's and star_unique's; `readBy`
--- begins with `tokensInBy`.
+-- What the functions of star_lex, star_scan and star_split answer, in terms of the split: refusals 1 and 7 before and after it, and the contract of `read_tokens` (`Splits`). For contracts: theirs and
+-- star_unique's; `readBy` begins with `tokensInBy`.
 use mathlib.Core.Path.{_≡_}
 use mathlib.Core.Bool.{Bool, true, false}
 use mathlib.Core.List.{List}

@@ -1,4 +1,4 @@
--- The next line end from a place of a file on, seen from inside a text field. For the contract of `line_end` of scan.rt.
+-- The next line end from a place of a file on, seen from inside a text field. For the contract of `line_end` of star_scan.
 use mathlib.Core.Path.{_≡_}
 use mathlib.Core.Bool.{true}
 use mathlib.Core.List.{List}

@@ -1,4 +1,4 @@
--- The split of a file into tokens: specification 2.2 and 3, and refusals 2 to 6 of specification 8.1. Believed; `Settles`, the demands on reading and the contracts of star_lex cite it.
+-- The split of a file into tokens: specification 2.2 and 3, and refusals 2 to 6 of specification 8.1. Believed; `Settles`, the demands on reading and the contracts of star_lex, star_scan and star_split cite it.
 use mathlib.Core.Bool.{Bool, true, false, cond, not, _&&_}
 use mathlib.Core.List.{List, [], _∷_}
 use mathlib.Core.Option.{Option, none, some, Option·map}

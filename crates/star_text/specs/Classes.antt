@@ -1,4 +1,4 @@
--- The classes of bytes that a table of 256 holds, and tests by a lent table. For contracts: star_text's, and star_lex's that are lent the table.
+-- The classes of bytes that a table of 256 holds, and tests by a lent table. For contracts: star_text's, and those of star_scan and star_split that are lent the table.
 use mathlib.Core.Path.{_≡_}
 use mathlib.Core.Bool.{Bool, cond}
 use mathlib.Core.List.{List}

@@ -14,10 +14,10 @@ byte-at-requires : tie.Need-byte-at-requires
 byte-at-requires c κs = search needs
 
 returns : tie.Need-returns
-returns c = rw (eq-eqb _ _ (c .before .if1 .taken)) (c .byte-at .ensures)
+returns c = rw (eq-eqb _ 13 (c .before .if1 .taken)) (c .byte-at .ensures)
 
 returns-2 : tie.Need-returns-2
-returns-2 c = rw (ne-eqb _ _ (c .if1 .left))
+returns-2 c = rw (ne-eqb _ 13 (c .if1 .left))
 
 pub is-pair-spec : {M : Type 1} → statement M
 is-pair-spec =
