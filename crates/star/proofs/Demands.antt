@@ -28,9 +28,9 @@ use Rattle.star_convert.proofs.OverAndBack.{converted-reads, over-and-back}
 use Rattle.star_check.proofs.OldBench.{fits-32, fits-32-no, fits-answers}
 use Rattle.star_index.proofs.Exactly.{index-exactly}
 use Rattle.star_index.proofs.IndexLookup.{index-lookup}
-use Rattle.star_index.proofs.Building.{index-built}
-use Rattle.star_index.proofs.Known.{index-known}
-use Rattle.star_index.proofs.Answering.{index-answers}
+use Rattle.star_build.proofs.Building.{index-built}
+use Rattle.star_build.proofs.Known.{index-known}
+use Rattle.star_build.proofs.Answering.{index-answers}
 use Rattle.star.specs.Demands.{Demand1, Demand2, Demand3, Numbers, LineEnds, Comparisons, LongerNames, Columns, Indexes, Layouts}
 
 pub demand-1 : Demand1

@@ -12,8 +12,9 @@ use Rattle.star_number.specs.Demands.{NumberExact, NumberPieces, WholeExact, Po
 use Rattle.star_write.specs.Demands.{RoundTrip, WritesAgain, WriteAnswers}
 use Rattle.star_convert.specs.Demands.{OverAndBack, ConvertedReads, ConvertAnswers}
 use Rattle.star_check.specs.Demands.{Fits32, Fits32No, FitsAnswers}
-use Rattle.star_index.specs.Known.{IndexKnown}
-use Rattle.star_index.specs.Demands.{IndexExactly, IndexLookup, IndexBuilt, IndexAnswers}
+use Rattle.star_index.specs.Demands.{IndexExactly, IndexLookup}
+use Rattle.star_build.specs.Known.{IndexKnown}
+use Rattle.star_build.specs.Demands.{IndexBuilt, IndexAnswers}
 
 -- for every input of every call the number is 0 or one that the call may give, with its place in range; on a refusal what was lent for writing is 0,
 -- and so are counts, length, kind, packet, row and yes; reading, writing, conversion, the checks and the builder of an index answer 0 only with a reading

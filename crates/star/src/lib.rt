@@ -14,8 +14,9 @@ ghost use Rattle.star_text.specs.Compare.{compareOf};
 ghost use Rattle.star_read.specs.Answer.{tables, ReadsIn};
 ghost use Rattle.star_find.specs.Find.{lent, findBlock, findFrame, findName};
 ghost use Rattle.star_value.specs.Values.{valueAt, valueSpan};
-ghost use Rattle.star_index.specs.Index.{Checks, Builds};
-ghost use Rattle.star_index.specs.Lookup.{findSlot};
+ghost use Rattle.star_slots.specs.Lookup.{findSlot};
+ghost use Rattle.star_index.specs.Index.{Checks};
+ghost use Rattle.star_build.specs.Build.{Builds};
 ghost use Rattle.star_number.specs.Taken.{numberIn};
 ghost use Rattle.star_number.specs.Forms.{formOf, valueNumber, valueFormOf};
 ghost use Rattle.star_write.specs.Answer.{Writes};
@@ -275,7 +276,7 @@ pub extern "C" fn star_index_build(
         (tables (now (tokens .exit)) (now (sets .exit)) (now (names .exit)) (now (packets .exit)) (now (values .exit)))
         (now (slots .entry)) (now (slots .exit)) r ⌝ }
 {
-    star_index::build(file, tokens, sets, names, packets, values, slots)
+    star_build::build(file, tokens, sets, names, packets, values, slots)
 }
 
 // Reads a file into the five tables and checks that the slots are an index of its names. On a refusal counts and tables are all 0; the slots are not written.
@@ -313,7 +314,7 @@ pub extern "C" fn star_index_find(
     ensures { λ r. ⌜ r ≡ findSlot (lent (now (file .entry)) (now (tokens .entry)) (now (sets .entry)) (now (names .entry)) (now (packets .entry))
         (now (values .entry))) counts (now (slots .entry)) set (now (name .entry)) ⌝ }
 {
-    star_index::find(
+    star_slots::find(
         file,
         tokens,
         sets,

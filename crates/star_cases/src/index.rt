@@ -32,7 +32,7 @@ fn build_in(file: &[u8], slots: &mut [u32], kept: &mut [u32]) -> Answer {
     let mut names = [FILLED; 1024];
     let mut packets = [FILLED; 1024];
     let mut values = [FILLED; 1024];
-    let answer = star_index::build(
+    let answer = star_build::build(
         file,
         kept::lend(&mut tokens, kept, 1),
         kept::lend(&mut sets, kept, 2),
@@ -100,7 +100,7 @@ pub fn ask(given: &[u8], file: &[u8], kept: &[u32]) {
     let counts = calls::counts(kept);
     let set = words::number(given);
     let name = words::rest(given);
-    calls::print_found(star_index::find(
+    calls::print_found(star_slots::find(
         file,
         tokens,
         sets,

@@ -1,6 +1,6 @@
-// The hash by which an index finds a name of a set: 32-bit FNV-1a of the set's number and the name.
+// The hash by which an index finds a name of a set, 32-bit FNV-1a of the set's number and the name, and the slot where such a name belongs.
 ghost use mathlib.Core.Path.{_≡_};
-ghost use Rattle.star_hash.specs.Hash.{prime, product, mixed, fnv as Hash·fnv, hashOf};
+ghost use Rattle.star_hash.specs.Hash.{prime, product, mixed, fnv as Hash·fnv, hashOf, homeOf};
 
 // Where 32-bit FNV-1a begins.
 pub const BASIS: u32 = 2166136261;
@@ -41,4 +41,15 @@ pub fn hash(set: u32, name: &[u8]) -> u32
     let third = mix(second, set / 65536 % 256);
     let fourth = mix(third, set / 16777216 % 256);
     fnv(fourth, name)
+}
+
+// The slot where a name of a set belongs, of so many; of no slots the hash itself.
+pub fn home_of(slots: usize, set: u32, name: &[u8]) -> usize
+    ensures { λ r. ⌜ r ≡ homeOf slots set (now (name .entry)) ⌝ }
+{
+    let hash = hash(set, name) as usize;
+    if slots == 0 {
+        return hash;
+    }
+    hash % slots
 }

@@ -27,10 +27,10 @@ use Rattle.star_find.proofs.Seeking.{Hit}
 use Rattle.star_find.proofs.After.{left, counted, lent-left, counts-counted, token-content, RowsAfter, reading-in, rows-after}
 use Rattle.star_find.proofs.Distinct.{one-row}
 use Rattle.star_hash.specs.Hash.{homeOf}
-use Rattle.star_index.specs.Index.{rowHome}
-use Rattle.star_index.specs.Lookup.{slotAsk, slotName, findSlot}
-use Rattle.star_index.specs.Demands.{IndexOf, IndexLookup}
 use Rattle.star_hash.proofs.Hashing.{home-same, home-inside}
+use Rattle.star_slots.specs.Lookup.{slotAsk, slotName, findSlot}
+use Rattle.star_index.specs.Index.{rowHome}
+use Rattle.star_index.specs.Demands.{IndexOf, IndexLookup}
 use Rattle.star_index.proofs.Exactly.{index-exactly}
 use Rattle.star_index.proofs.Probing.{probe-seek}
 

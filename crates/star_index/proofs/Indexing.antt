@@ -8,7 +8,16 @@ use borrow.Author.Tests.{leb-true, leb-false, le-leb, lt-leb, ltb-true, lt-ltb, 
 use lib.Dec.{eqb, leb, ltb}
 use lib.ListN.{length}
 use Rattle.star_text.proofs.Cases.{both}
-use Rattle.star_index.specs.Index.{slotAt, FromTo, JustOne, Indexed, allBelow, isFromTo, occurrences, isFull, isIndexed}
+use Rattle.star_slots.specs.Slots.{slotAt}
+use Rattle.star_index.specs.Index.{FromTo, JustOne, Indexed, allBelow, isFromTo, occurrences, isFull, isIndexed}
+
+-- two numbers are equal or not
+pub by-equal {κ} : {P : Type κ} (a b : ℕ) → (a ≡ b → P) → ((a ≡ b → ⊥) → P) → P
+by-equal {P = P} a b f g = go (eqb a b) refl
+  where
+    go : (t : Bool) → eqb a b ≡ t → P
+    go true e = f (eqb-true a b e)
+    go false e = g (eqb-false a b e)
 
 -- tests that both hold
 pub and-both : {s t : Bool} → s ≡ true → t ≡ true → (s && t) ≡ true

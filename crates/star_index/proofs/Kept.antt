@@ -4,8 +4,7 @@ use mathlib.Core.Bool.{true, false}
 use mathlib.Core.List.{List}
 use Prim.Native.Nat.{ℕ, suc, _-_, _≤_, _<_}
 use native.Mathlib.Omega.{arith}
-use borrow.Author.Tests.{lt-ltb, le-ltb}
-use lib.ListN.{length, getD, replicate}
+use lib.ListN.{length, getD}
 use Rattle.star_text.specs.Outcome.{refused, accepted}
 use Rattle.star_text.proofs.Outcome.{need-true, need-false}
 use Rattle.star_rows.specs.Rows.{holding}
@@ -19,17 +18,16 @@ use Rattle.star_grammar.specs.Tables.{NameRow, Rows, nameWords}
 use Rattle.star_grammar.proofs.Widths.{name-wide}
 use Rattle.star_grammar.proofs.RowsOf.{IsToken}
 use Rattle.star_read.specs.Read.{FileRows, ReadOutcome, Sizes, readIn, readOf}
-use Rattle.star_read.specs.Answer.{readAnswer, readingOf, Tables, tablesOf, Leaves}
+use Rattle.star_read.specs.Answer.{readAnswer, Tables, tablesOf, Leaves}
 use Rattle.star_read.specs.declared.Answer.{Answer}
 use Rattle.star_read.proofs.InLayout.{in-today}
 use Rattle.star_read.proofs.Accepted.{accepted-holds, answer-refused, answer-accepted}
 use Rattle.star_find.proofs.After.{token-content, RowsAfter, reading-in, rows-after}
-use Rattle.star_index.specs.Index.{rowHome, isIndexed, checkOf, filled, built, buildOf, slotsOf}
-use Rattle.star_index.specs.Inner.{tableHome, Unmarked}
+use Rattle.star_slots.specs.Inner.{tableHome}
+use Rattle.star_index.specs.Index.{rowHome, isIndexed, checkOf}
+use Rattle.star_index.specs.Inner.{Unmarked}
 use Rattle.star_index.proofs.Indexing.{indexed-alike}
-use Rattle.star_index.proofs.Filling.{filled-alike}
 use Rattle.star_index.proofs.Exactly.{isIndexOf, check-read, check-refused}
-use Rattle.star_index.proofs.Building.{build-read, build-refused}
 use Rattle.star_index.proofs.IndexLookup.{noName, row-home}
 
 module _ (file : List ℕ) (words : Sizes) (ps : List Placed) (rows : Rows) (e : readOf file words ≡ accepted (ps, rows)) where
@@ -77,17 +75,17 @@ module _ (file : List ℕ) (words : Sizes) (ps : List Placed) (rows : Rows) (e :
 
 -- after an answer of reading that is no refusal, with the tables as reading has left them
 module _ (file : List ℕ) (words : Sizes) (r : Answer) (e : r ≡ readAnswer (readOf file words)) (t : Tables) (l : Leaves (readOf file words) words t) (z : r .refusal ≡ 0) where
-  abbrev homes : (slots : ℕ) → ℕ → ℕ
+  abbrev pub homes : (slots : ℕ) → ℕ → ℕ
   homes slots = tableHome file (t .tokens) (r .tokens) (t .names) slots
 
-  read : (q : FileRows) × (readOf file words ≡ accepted q)
+  pub read : (q : FileRows) × (readOf file words ≡ accepted q)
   read = let a = answer-accepted file words r e z in ((a .0, a .1), a .2)
 
   count-is : r .tokens ≡ length (read .0 .0)
   unfolding readAnswer
   count-is = ap (λ s. s .tokens) (e ∙ ap readAnswer (read .1))
 
-  rows-are : r .names ≡ length (read .0 .1 .names)
+  pub rows-are : r .names ≡ length (read .0 .1 .names)
   unfolding readAnswer
   rows-are = ap (λ s. s .names) (e ∙ ap readAnswer (read .1))
 
@@ -104,7 +102,7 @@ module _ (file : List ℕ) (words : Sizes) (r : Answer) (e : r ≡ readAnswer (r
       subst (Unmarked (t .names)) (sym rows-are)
       (subst (λ x. Unmarked x (length (read .0 .1 .names))) (sym names-are) (names-unmarked file words (read .0 .0) (read .0 .1) (read .1)))
 
-  homes-are : (slots number : ℕ) → 1 ≤ number → number ≤ r .names → homes slots number ≡ rowHome (read .0 .0) (read .0 .1) slots number
+  pub homes-are : (slots number : ℕ) → 1 ≤ number → number ≤ r .names → homes slots number ≡ rowHome (read .0 .0) (read .0 .1) slots number
   homes-are slots number low high =
       let q : homes slots number
       ≡ tableHome file (holding tokenRow (read .0 .0) (words .tokens)) (length (read .0 .0)) (holding nameWords (read .0 .1 .names) (words .names)) slots number
@@ -123,50 +121,13 @@ module _ (file : List ℕ) (words : Sizes) (r : Answer) (e : r ≡ readAnswer (r
   pub check-no : (slots : List ℕ) → isIndexed (r .names) (homes (length slots)) slots ≡ false → checkOf file words slots ≡ refused 15 0
   check-no slots b = check-read file words slots (read .0) (read .1) ∙ need-false 15 0 (accepted (read .0)) (sym (test-is slots) ∙ b)
 
-  -- slots are not more than names, or are
-  build-few : (slots : ℕ) → slots ≤ r .names → buildOf file words slots ≡ refused 7 8
-  build-few slots h = build-read file words slots (read .0) (read .1) ∙ need-false 7 8 _ (le-ltb (length (read .0 .1 .names)) slots (omega (arith, rows-are)))
-
-  pub build-few-reads : (slots : ℕ) → slots ≤ r .names → readingOf (buildOf file words slots) ≡ refused 7 8
-  unfolding readingOf
-  build-few-reads slots h = ap readingOf (build-few slots h)
-
-  pub build-few-slots : (slots : ℕ) → slots ≤ r .names → replicate slots 0 ≡ slotsOf (buildOf file words slots) slots
-  unfolding slotsOf
-  build-few-slots slots h = sym (ap (λ o. slotsOf o slots) (build-few slots h))
-
-  built-is : (slots : ℕ) → r .names < slots → buildOf file words slots ≡ accepted (read .0, built (read .0 .0) (read .0 .1) slots)
-  built-is slots h = build-read file words slots (read .0) (read .1) ∙ need-true 7 8 _ (lt-ltb (length (read .0 .1 .names)) slots (omega (arith, rows-are)))
-
-  pub build-reads : (slots : ℕ) → r .names < slots → readingOf (buildOf file words slots) ≡ readOf file words
-  unfolding readingOf
-  build-reads slots h = ap readingOf (built-is slots h) ∙ sym (read .1)
-
-  pub build-slots : (slots : ℕ) → r .names < slots → filled (homes slots) (replicate slots 0) (r .names) ≡ slotsOf (buildOf file words slots) slots
-  unfolding slotsOf built
-  build-slots slots h =
-      filled-alike (homes slots) (rowHome (read .0 .0) (read .0 .1) slots) (replicate slots 0) (r .names) (homes-are slots)
-      ∙ ap (filled (rowHome (read .0 .0) (read .0 .1) slots) (replicate slots 0)) rows-are
-      ∙ sym (ap (λ o. slotsOf o slots) (built-is slots h))
-
 -- after a refusal of reading
 module _ (file : List ℕ) (words : Sizes) (r : Answer) (e : r ≡ readAnswer (readOf file words)) (z : r .refusal ≡ 0 → ⊥) where
-  none-read : readOf file words ≡ refused (r .refusal) (r .place)
+  pub none-read : readOf file words ≡ refused (r .refusal) (r .place)
   none-read = answer-refused (readOf file words) r e z
 
   pub check-unread : (slots : List ℕ) → checkOf file words slots ≡ readOf file words
   check-unread slots = check-refused file words slots (r .refusal) (r .place) none-read ∙ sym none-read
-
-  build-unread : (slots : ℕ) → buildOf file words slots ≡ refused (r .refusal) (r .place)
-  build-unread slots = build-refused file words slots (r .refusal) (r .place) none-read
-
-  pub build-unread-reads : (slots : ℕ) → readingOf (buildOf file words slots) ≡ readOf file words
-  unfolding readingOf
-  build-unread-reads slots = ap readingOf (build-unread slots) ∙ sym none-read
-
-  pub build-unread-slots : (slots : ℕ) → replicate slots 0 ≡ slotsOf (buildOf file words slots) slots
-  unfolding slotsOf
-  build-unread-slots slots = sym (ap (λ o. slotsOf o slots) (build-unread slots))
 
 -- tables as an outcome leaves them, at the same outcome and sizes
 pub leaves-at : {o p : ReadOutcome} → p ≡ o → {u v : Sizes} → u ≡ v → {t : Tables} → Leaves o u t → Leaves p v t

@@ -1,14 +1,8 @@
 pub mod Scanning
 pub mod Indexing
 pub mod Exactly
-pub mod Slots
 pub mod Marking
 pub mod Runs
-pub mod Zeros
-pub mod Filling
-pub mod Building
 pub mod Probing
 pub mod IndexLookup
 pub mod Kept
-pub mod Answering
-pub mod Known

@@ -10,9 +10,10 @@ use borrow.Author.Tests.{ltb-true, ltb-false}
 use lib.Dec.{ltb}
 use lib.ListN.{length, getD, set, length-set}
 use lib.Seq.{ext-getD, getD-set-same, getD-set-other}
-use Rattle.star_index.specs.Index.{slotAt, JustOne}
+use Rattle.star_slots.specs.Slots.{slotAt}
+use Rattle.star_index.specs.Index.{JustOne}
 use Rattle.star_index.specs.Inner.{mark, placeOf, Unmarked, Seen, Marked, Apart, Cleaned}
-use Rattle.star_index.proofs.Slots.{by-equal}
+use Rattle.star_index.proofs.Indexing.{by-equal}
 
 -- a row is in one of the first so many slots, or in none of them
 seen-or : (slots : List ℕ) (n row : ℕ) → Seen slots n row ⊎ (Seen slots n row → ⊥)

@@ -14,9 +14,10 @@ use Rattle.star_text.proofs.Names.{same-true, same-false}
 use Rattle.star_find.specs.Find.{seek, meet, found, refused}
 use Rattle.star_find.specs.declared.Found.{Found}
 use Rattle.star_find.proofs.Seeking.{Sought, Hit, seek-sought}
-use Rattle.star_index.specs.Index.{slotAt, FromTo, JustOne, Indexed, nextSlot}
-use Rattle.star_index.specs.Lookup.{probe}
-use Rattle.star_index.proofs.Slots.{next-slot, next-first, next-inside}
+use Rattle.star_slots.specs.Slots.{slotAt, nextSlot}
+use Rattle.star_slots.specs.Lookup.{probe}
+use Rattle.star_slots.proofs.Slots.{next-slot, next-first, next-inside}
+use Rattle.star_index.specs.Index.{FromTo, JustOne, Indexed}
 
 -- a slot that is not 0 holds a row
 row-held : (slots : List ℕ) (at : ℕ) → 1 ≤ slotAt slots at → slotAt slots at ≡ suc (slotAt slots at - 1)

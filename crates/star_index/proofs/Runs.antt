@@ -9,11 +9,10 @@ use borrow.Author.Tests.{leb-true, leb-false, le-leb, le-ltb, eqb-true, eqb-fals
 use lib.Dec.{eqb, leb, ltb}
 use lib.ListN.{length}
 use Rattle.star_text.proofs.Cases.{both, impossible}
-use Rattle.star_index.specs.Index.{slotAt, FromTo, JustOne, Indexed, isIndexed}
-use Rattle.star_index.specs.Inner.{tableHome, runStart, inRun, slotFits, slotsFit}
-use Rattle.star_hash.proofs.Hashing.{home-inside}
-use Rattle.star_index.proofs.Indexing.{and-both, all-true, true-all, Full, indexed-true, true-indexed}
-use Rattle.star_index.proofs.Slots.{by-equal}
+use Rattle.star_slots.specs.Slots.{slotAt}
+use Rattle.star_index.specs.Index.{FromTo, JustOne, Indexed, isIndexed}
+use Rattle.star_index.specs.Inner.{runStart, inRun, slotFits, slotsFit}
+use Rattle.star_index.proofs.Indexing.{and-both, all-true, true-all, Full, indexed-true, true-indexed, by-equal}
 
 module _ (slots : List ℕ) where
   -- the slots of a run are full
@@ -128,8 +127,3 @@ module _ (rows : ℕ) (home : ℕ → ℕ) (slots : List ℕ) (below : (row : �
   index-once h e true once never =
       sym (true-indexed rows home slots (record { more = h; once = once refl; no-other = fits-no-other e; full = fits-full e }))
   index-once h e false once never = not-index rows home slots (λ x. never refl (x .once))
-
--- a home is one of the slots
-pub table-home : (file tokens : List ℕ) (count : ℕ) (names : List ℕ) (slots row : ℕ) → 0 < slots → tableHome file tokens count names slots row < slots
-unfolding tableHome
-table-home file tokens count names slots row h = home-inside slots _ _ h

@@ -1,27 +1,24 @@
--- What an index of name rows is, how one is built, and what its check and its builder give: specification 19. Believed; the contracts of `check` and `build` and the demands cite it.
+-- What an index of name rows is, and what its check gives: specification 19. Believed; the contract of `check` and the demands cite it.
 use mathlib.Core.Path.{_≡_}
 use mathlib.Core.Bool.{Bool, true, cond, not, _&&_, _||_}
 use mathlib.Core.List.{List, [], _∷_, map}
 use Prim.Native.Nat.{ℕ, zero, suc, _-_, _≤_, _<_}
 use lib.Dec.{eqb, leb, ltb}
-use lib.ListN.{length, getD, replicate, set}
-use Rattle.star_text.specs.Outcome.{Outcome, refused, accepted, then, need}
+use lib.ListN.{length, getD}
+use Rattle.star_text.specs.Outcome.{accepted, then, need}
 use Rattle.star_lex.specs.Tokens.{Placed}
 use Rattle.star_grammar.specs.Tables.{Rows}
-use Rattle.star_read.specs.Read.{FileRows, ReadOutcome, Sizes, readOf}
-use Rattle.star_read.specs.Answer.{Tables, sizes, readingOf, Gives}
+use Rattle.star_read.specs.Read.{ReadOutcome, Sizes, readOf}
+use Rattle.star_read.specs.Answer.{Tables, sizes, Gives}
 use Rattle.star_read.specs.declared.Answer.{Answer}
 use Rattle.star_find.specs.Demands.{contentOf}
 use Rattle.star_hash.specs.Hash.{homeOf}
+use Rattle.star_slots.specs.Slots.{slotAt}
 
 -- the home of a name row of a reading among so many slots: by its set and its name
 unfoldable pub rowHome : List Placed → Rows → (slots row : ℕ) → ℕ
 rowHome ps rows slots row =
     homeOf slots (getD (map (λ r. r .set) (rows .names)) (row - 1) 0) (contentOf ps (getD (map (λ r. r .name) (rows .names)) (row - 1) 0))
-
--- what a slot holds
-abbrev pub slotAt : List ℕ → ℕ → ℕ
-slotAt slots at = getD slots at 0
 
 -- a slot from a home to a row's own slot: between them or, where the own slot comes first, from the home to the end or from the start to the own slot
 pub data FromTo (home own : ℕ) : (slot : ℕ) → Type 0 where
@@ -71,42 +68,6 @@ unfoldable pub checkOf : List ℕ → Sizes → (slots : List ℕ) → ReadOutco
 checkOf file words slots =
     then (readOf file words) (λ read. need (isIndexed (length (read .1 .names)) (rowHome (read .0) (read .1) (length slots)) slots) 15 0 (accepted read))
 
--- the slot after one, of so many: after the last the first
-unfoldable pub nextSlot : (slots at : ℕ) → ℕ
-nextSlot slots at = cond (ltb (suc at) slots) (suc at) 0
-
--- the first slot that holds 0, of so many from this one on
-unfoldable pub firstFree : List ℕ → (left at : ℕ) → ℕ
-firstFree slots zero at = at
-firstFree slots (suc left) at = cond (eqb (slotAt slots at) 0) at (firstFree slots left (nextSlot (length slots) at))
-
--- a row goes to the first 0 from its home
-unfoldable pub entered : (home : ℕ → ℕ) → (row : ℕ) → List ℕ → List ℕ
-entered home row slots = set slots (firstFree slots (length slots) (home row)) row
-
--- so many rows, in order
-unfoldable pub filled : (home : ℕ → ℕ) → List ℕ → (rows : ℕ) → List ℕ
-filled home slots zero = slots
-filled home slots (suc n) = entered home (suc n) (filled home slots n)
-
-unfoldable pub built : List Placed → Rows → (slots : ℕ) → List ℕ
-built ps rows slots = filled (rowHome ps rows slots) (replicate slots 0) (length (rows .names))
-
--- the builder reads first, with reading's refusals; then 7 with place 8 where slots are not more than names
-unfoldable pub buildOf : List ℕ → Sizes → (slots : ℕ) → Outcome (FileRows × List ℕ)
-buildOf file words slots =
-    then (readOf file words) (λ read. need (ltb (length (read .1 .names)) slots) 7 8 (accepted (read, built (read .0) (read .1) slots)))
-
--- what it leaves in the slots: on any refusal 0
-unfoldable pub slotsOf : Outcome (FileRows × List ℕ) → (slots : ℕ) → List ℕ
-slotsOf (refused n place) slots = replicate slots 0
-slotsOf (accepted (read, index)) slots = index
-
 -- the contract of the check: the answer, and every word of the five tables; slots are lent to be read alone
 abbrev pub Checks : (file slots : List ℕ) (before after : Tables) → Answer → Type 0
 Checks file slots before after r = Gives (checkOf file (sizes before) slots) before after r
-
--- the contract of the builder: the answer, every word of the five tables, and every slot
-pub record Builds (file : List ℕ) (before after : Tables) (slots left : List ℕ) (r : Answer) : Type 0 where
-  pub gives : Gives (readingOf (buildOf file (sizes before) (length slots))) before after r
-  pub leaves : left ≡ slotsOf (buildOf file (sizes before) (length slots)) (length slots)

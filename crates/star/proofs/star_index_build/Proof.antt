@@ -1,4 +1,4 @@
--- `star_index_build` is `build` of star_index, with its contract.
+-- `star_index_build` is `build` of star_build, with its contract.
 use borrow.Author.Needs.{needs}
 use Rattle.star.proofs.star_index_build.Statement.{statement}
 use Rattle.star.proofs.star_index_build.Tie as tie

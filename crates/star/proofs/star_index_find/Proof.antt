@@ -1,4 +1,4 @@
--- `star_index_find` is `find` of star_index, with its contract.
+-- `star_index_find` is `find` of star_slots, with its contract.
 use borrow.Author.Needs.{needs}
 use Rattle.star.proofs.star_index_find.Statement.{statement}
 use Rattle.star.proofs.star_index_find.Tie as tie

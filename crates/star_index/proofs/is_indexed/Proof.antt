@@ -6,8 +6,9 @@ use borrow.Author.Needs.{needs}
 use borrow.Author.Tests.{not-true, not-false}
 use lib.ListN.{length}
 use Rattle.star_text.proofs.Cases.{impossible}
-use Rattle.star_index.specs.Inner.{tableHome}
-use Rattle.star_index.proofs.Runs.{fits-no-other, index-few, index-unfit, index-once, table-home}
+use Rattle.star_slots.specs.Inner.{tableHome}
+use Rattle.star_slots.proofs.Slots.{table-home}
+use Rattle.star_index.proofs.Runs.{fits-no-other, index-few, index-unfit, index-once}
 use Rattle.star_index.proofs.is_indexed.Statement.{statement}
 use Rattle.star_index.proofs.is_indexed.Tie as tie
 

@@ -30,7 +30,7 @@ returns-3 c =
     let start = c .before .before .before .before .before .before .before in
     let within : start .args .row ≤ start .args .rows = omega (arith, c .before .before .if2 .left) in
     rw (ne-eqb _ 0 (c .before .before .before .if1 .left), le-ltb _ _ within)
-    (c .in-run .ensures ∙ ap (λ h. inRun (start .args .begin) (start .args .last) h (start .args .at)) (c .before .home-at .ensures .0))
+    (c .in-run .ensures ∙ ap (λ h. inRun (start .args .begin) (start .args .last) h (start .args .at)) (c .before .home-at .ensures))
 
 pub slot-fits-spec : {M : Type 1} → statement M
 slot-fits-spec = tie.close (tie.spec returns returns-2 home-at-requires in-run-requires returns-3)

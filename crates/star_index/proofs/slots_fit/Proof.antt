@@ -6,8 +6,9 @@ use native.Mathlib.Omega.{arith}
 use borrow.Author.Tests.{not-true, not-false}
 use lib.Dec.{eqb}
 use lib.ListN.{length, getD}
+use Rattle.star_slots.specs.Inner.{tableHome}
 use Rattle.star_index.specs.Index.{allBelow}
-use Rattle.star_index.specs.Inner.{tableHome, runStart, slotFits, slotsFit}
+use Rattle.star_index.specs.Inner.{runStart, slotFits, slotsFit}
 use Rattle.star_index.proofs.Scanning.{run-next, fit-more, fit-less}
 use Rattle.star_index.proofs.slots_fit.Statement.{statement}
 use Rattle.star_index.proofs.slots_fit.Tie as tie
@@ -33,7 +34,7 @@ shared-slice-read-row : tie.Need-shared-slice-read-row Inv-loop μ-loop
 shared-slice-read-row c = omega arith
 
 slot-fits-requires : tie.Need-slot-fits-requires Inv-loop μ-loop
-slot-fits-requires c κs = omega arith
+slot-fits-requires c κs = tt
 
 -- the present slot, as the definition takes it
 turn : (c : tie.After-slot-fits Inv-loop μ-loop)
