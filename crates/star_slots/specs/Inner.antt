@@ -1,4 +1,4 @@
--- What a slot is refused with, and the home of a name row by the tables. For contracts of inner functions; what lookup answers, specs/Lookup.antt says.
+-- What a slot is refused with, and the home of a name row by the tables. For contracts of `slot_refusal` and `home_at`, and of functions of star_index and star_build that go by homes; what lookup answers, specs/Lookup.antt says.
 use mathlib.Core.Bool.{cond}
 use mathlib.Core.List.{List}
 use Prim.Native.Nat.{ℕ}

@@ -31,7 +31,7 @@ pub fn home_at(
     star_hash::home_of(slots, set, star_find::part(file, tokens, count, token))
 }
 
-// The slot after one, of so many: after the last the first.
+// The slot after one, of so many: after the last, or after a number that is no slot, the first.
 pub fn next_slot(slots: usize, at: usize) -> usize
     ensures { λ r. ⌜ r ≡ nextSlot slots at ⌝ }
 {
