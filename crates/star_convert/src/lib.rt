@@ -2,7 +2,6 @@
 mod frames;
 
 use star_write::Written;
-ghost use mathlib.Core.Path.{_≡_};
 ghost use Rattle.star_read.specs.Answer.{tables};
 ghost use Rattle.star_convert.specs.Convert.{Converts};
 

@@ -1,20 +1,16 @@
 -- Demand 1, of the writer: reading's numbers, 1 or 7 at 6, and then nothing is left; 0 has a reading.
-use mathlib.Core.Path.{_≡_, refl, sym, _∙_}
-use mathlib.Core.Bool.{Bool, true, false}
+use mathlib.Core.Path.{_≡_, refl}
 use mathlib.Core.List.{List}
-use Prim.Native.Nat.{ℕ, _≤_, _<_}
+use Prim.Native.Nat.{ℕ}
 use native.Mathlib.Nat.{sub-zero}
-use borrow.Author.Tests.{leb-true, leb-false}
-use lib.Dec.{leb}
 use lib.ListN.{length}
 use Rattle.star_text.specs.Outcome.{refused, accepted, then}
 use Rattle.star_text.proofs.Outcome.{need-refused, then-refused}
 use Rattle.star_lex.proofs.Cases.{impossible}
-use Rattle.star_read.specs.Read.{Sizes, readIn, readOf}
+use Rattle.star_read.specs.Read.{Sizes, readOf}
 use Rattle.star_read.specs.Answer.{readAnswer, readingOf, tablesOf}
 use Rattle.star_read.specs.Demands.{Numbered}
-use Rattle.star_read.proofs.Demand1.{numbered-by, has-by, refused-numbered, accepted-has}
-use Rattle.star_read.proofs.InLayout.{in-accepted, in-layout, in-none}
+use Rattle.star_read.proofs.Demand1.{refused-numbered, accepted-has}
 use Rattle.star_write.specs.Write.{Writing, plainFits, writeOf}
 use Rattle.star_write.specs.Answer.{writeAnswer, bytesOf, outputOf}
 use Rattle.star_write.specs.Demands.{WriteNumbered, WriteAnswer, WriteAnswers}
