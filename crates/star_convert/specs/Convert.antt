@@ -1,4 +1,4 @@
--- What converting from one layout into the other gives: specification 12.4, 12.6 and 12.7. Believed; the contract of `convert` and the demands cite it.
+-- What converting from one layout into the other gives: specification 20.7 and 20.8. Believed; the contract of `convert` and the demands cite it.
 use mathlib.Core.List.{List}
 use Prim.Native.Nat.{ℕ, _-_}
 use lib.ListN.{length}
