@@ -2,8 +2,9 @@
  * Reads the full case, specification 15.1, through star.h and prints what came of it:
  * the counts, the five tables, each value of each name, the columns walked by their links,
  * its names compared, a value and a text as numbers, the plain form, whether its names and
- * codes fit 32 bytes, an index of its names, built, checked and looked up through, and a
- * file of the layout of 1991, read and converted to today's and back.
+ * codes fit 32 bytes, an index of its names, built, checked and looked up through, a file
+ * of the layout of 1991, read and converted to today's and back, and an old file, which has
+ * a header stop, refused and then written without it.
  */
 #include <stdio.h>
 #include <string.h>
@@ -14,6 +15,9 @@ static const char file[] = "data_a\nloop_\n_x\nloop_\n_y\n1 2 3 stop_ 4 stop_\n"
 
 /* A file of the layout of 1991, in which stop_ closes a save frame. */
 static const char old_file[] = "data_a save_f\nloop_ _x 1 2\nstop_\n_x 3\n";
+
+/* An old file: the stop_ after the names is a header stop. */
+static const char stop_file[] = "data_a loop_ _x loop_ _y stop_ 1 2 stop_\n";
 
 /* The bytes of the file, without the 0 that ends the string. */
 #define BYTES (sizeof(file) - 1)
@@ -31,6 +35,10 @@ static uint32_t slots[STAR_SLOTS_WORDS(BYTES)];
 #define OLD_BYTES (sizeof(old_file) - 1)
 static uint8_t today[STAR_PLAIN_BYTES(OLD_BYTES)];
 static uint8_t back[STAR_PLAIN_BYTES(OLD_BYTES)];
+
+/* The same of the file with a header stop. */
+#define STOP_BYTES (sizeof(stop_file) - 1)
+static uint8_t dropped[STAR_PLAIN_BYTES(STOP_BYTES)];
 
 #define FILE_RANGE (const uint8_t *)file, BYTES
 #define TABLES                                                                \
@@ -107,10 +115,10 @@ static void print_index(uint32_t block, const char *name)
     printf("%s by the index is name row %u\n", name, (unsigned)found.row);
 }
 
-/* Prints what came of a conversion, and the plain form, each byte 10 as /. */
-static void print_converted(const char *to, star_written written, const uint8_t *form)
+/* Prints what came of a call that writes, and the plain form, each byte 10 as /. */
+static void print_form(const char *call, star_written written, const uint8_t *form)
 {
-    printf("converted to %s: refusal %u, place %u, %u bytes: ", to, (unsigned)written.refusal,
+    printf("%s: refusal %u, place %u, %u bytes: ", call, (unsigned)written.refusal,
            (unsigned)written.place, (unsigned)written.length);
     for (uint32_t at = 0; at < written.length; at++)
         putchar(form[at] == 10 ? '/' : form[at]);
@@ -129,10 +137,26 @@ static void print_layouts(void)
     }
     star_written over = star_convert(old, OLD_BYTES, STAR_LAYOUT_1991, TABLES,
                                      today, sizeof(today));
-    print_converted("today's layout", over, today);
+    print_form("converted to today's layout", over, today);
     star_written again = star_convert(today, over.length, STAR_LAYOUT_TODAY, TABLES,
                                       back, sizeof(back));
-    print_converted("the layout of 1991", again, back);
+    print_form("converted to the layout of 1991", again, back);
+}
+
+/* Reads the file with a header stop, drops the header stop, and reads what was written. */
+static void print_dropped(void)
+{
+    const uint8_t *old = (const uint8_t *)stop_file;
+    star_reading refused = star_read(old, STOP_BYTES, STAR_LAYOUT_TODAY, TABLES);
+    printf("file with a header stop: refusal %u, place %u\n", (unsigned)refused.refusal,
+           (unsigned)refused.place);
+    star_written written = star_drop_header_stops(old, STOP_BYTES, TABLES,
+                                                  dropped, sizeof(dropped));
+    print_form("header stop dropped", written, dropped);
+    print_table("its tokens", tokens, written.tokens, STAR_TOKENS_WIDTH);
+    star_reading reading = star_read(dropped, written.length, STAR_LAYOUT_TODAY, TABLES);
+    printf("without it: refusal %u, place %u, tokens %u of %u\n", (unsigned)reading.refusal,
+           (unsigned)reading.place, (unsigned)reading.tokens, (unsigned)written.tokens);
 }
 
 int main(void)
@@ -182,5 +206,6 @@ int main(void)
 
     print_index(block.row, "_y");
     print_layouts();
+    print_dropped();
     return 0;
 }

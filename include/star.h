@@ -5,8 +5,9 @@
  * 32-bit words, finds data blocks, save frames, names and values in them, names
  * of global blocks too, compares names and codes, answers values as numbers
  * with their uncertainties, writes the file's plain form, reads the layout of
- * 1991 and converts between it and today's, answers whether names and codes keep
- * the limit of older readers, and builds, checks and uses an index of the names.
+ * 1991 and converts between it and today's, writes old files without their header
+ * stops, answers whether names and codes keep the limit of older readers, and
+ * builds, checks and uses an index of the names.
  *
  * THE FIVE TABLES. Rows count from 1 and stand in file order. Offsets count
  * the file's bytes from 0; the end of a span is not included.
@@ -36,10 +37,10 @@
  *
  * LAYOUTS. In today's layout save_ alone closes a save frame. In the layout of
  * 1991 stop_ closes it: outside the header of a loop, stop_ closes the open inner
- * level if there is one, else the frame. In a header it is a header stop and
- * never closes a frame. save_ alone is always out of place in that layout. All
- * else is the same, and a file is refused by the rules of the layout that it is
- * read in. The stop_ that closes a frame is a token of kind 5.
+ * level if there is one, else the frame. In a header it never closes a frame and
+ * is refused as in today's layout. save_ alone is always out of place in that
+ * layout. All else is the same, and a file is refused by the rules of the layout
+ * that it is read in. The stop_ that closes a frame is a token of kind 5.
  *
  *   no.  constant           what closes a save frame
  *   0    STAR_LAYOUT_TODAY  save_
@@ -48,6 +49,14 @@
  * star_read and star_convert take the number of the layout that is read. Every
  * other call that reads a file reads today's. Lookups are the same in tables of
  * either.
+ *
+ * HEADER STOPS. Old files may have stop_ in the header of a loop of two levels or
+ * more, after the last name of the innermost level: at most one for each inner
+ * level, and nothing but a value may follow them. Such a header stop says nothing
+ * that the names do not say, and it is retired: every call that reads a file, in
+ * either layout, answers refusal 16 at the first one of a header, whatever follows
+ * it. Only star_drop_header_stops reads them, and writes the file without them.
+ * Anywhere else in a header stop_ is out of place, refusal 8.
  *
  * COLUMNS. The values of a name are a column. They stand among those of the
  * other names, and the fourth word of each value row links it to the next of
@@ -67,15 +76,16 @@
  *       row = value[3];
  *   }
  *
- * In tables that a reading, a writing, a conversion or a check accepted, with
- * its counts, that visits each value of the name once, in file order, and
- * nothing else. Who does not know where the tables come from has to check what
- * star_value_at checks: before, that counts.values and counts.tokens are no more
- * than the rows that the tables hold; at each link that is not 0, before it is
- * followed, that it is greater than the number of its own row, so that the walk
- * ends, and no greater than counts.values, and that the row it leads to has the
- * same first word; at each value, that its token row is from 1 to counts.tokens,
- * and that the span does not start after its end or end after the file.
+ * In tables that a reading, a writing, a conversion, a check or the dropping of
+ * header stops accepted, with its counts, that visits each value of the name
+ * once, in file order, and nothing else. Who does not know where the tables come
+ * from has to check what star_value_at checks: before, that counts.values and
+ * counts.tokens are no more than the rows that the tables hold; at each link that
+ * is not 0, before it is followed, that it is greater than the number of its own
+ * row, so that the walk ends, and no greater than counts.values, and that the row
+ * it leads to has the same first word; at each value, that its token row is from 1
+ * to counts.tokens, and that the span does not start after its end or end after
+ * the file.
  *
  * star_value_at, star_value_part and star_value_number go by the same links, from
  * the first value on at each call. Asked for the n values of a column one after
@@ -110,31 +120,33 @@
  * refusal; 0, STAR_OK, means accepted or found. A place is an offset into the
  * file unless said otherwise.
  *
- *   no.  constant         given when                                        place
- *   1    STAR_TOO_LARGE   file (or plain form) over 1,048,576 bytes         0
- *   2    STAR_BAD_BYTE    a byte not allowed (allowed: 9 to 13, 32 to 126)  the first such byte
- *   3    STAR_BAD_WORD    ill-formed word                                   its first byte
- *   4    STAR_TOO_LONG    name or code over 75 bytes                        its token's first byte
- *   5    STAR_OPEN_QUOTE  quote not closed on its line                      the quote
- *   6    STAR_OPEN_TEXT   text field not closed, or byte after its          the opening ;
- *                         closing ;
- *   7    STAR_TOO_SHORT   table (or output) too short, or slots not more    the table's number, 6 for the output,
- *                         than names                                        8 for the slots
- *   8    STAR_MISPLACED   token or end out of place                         its first byte, or the file's length
- *   9    STAR_TAKEN       name or code already taken                        first byte
- *   10   STAR_INCOMPLETE  packet not full, or inner level not closed        first byte, or the file's length
- *   11   STAR_TOO_DEEP    loop_ that opens level 9                          first byte
- *   13   STAR_NOT_FOUND   not found                                         0
- *   14   STAR_OUTSIDE     a number, row or link that points outside, or a   0
- *                         link to a row not later or not of the same name;
- *                         a layout that is neither 0 nor 1
- *   15   STAR_NO_INDEX    slots are no index of the file's names            0
+ *   no.  constant          given when                                        place
+ *   1    STAR_TOO_LARGE    file (or plain form) over 1,048,576 bytes         0
+ *   2    STAR_BAD_BYTE     a byte not allowed (allowed: 9 to 13, 32 to 126)  the first such byte
+ *   3    STAR_BAD_WORD     ill-formed word                                   its first byte
+ *   4    STAR_TOO_LONG     name or code over 75 bytes                        its token's first byte
+ *   5    STAR_OPEN_QUOTE   quote not closed on its line                      the quote
+ *   6    STAR_OPEN_TEXT    text field not closed, or byte after its          the opening ;
+ *                          closing ;
+ *   7    STAR_TOO_SHORT    table (or output) too short, or slots not more    the table's number, 6 for the output,
+ *                          than names                                        8 for the slots
+ *   8    STAR_MISPLACED    token or end out of place                         its first byte, or the file's length
+ *   9    STAR_TAKEN        name or code already taken                        first byte
+ *   10   STAR_INCOMPLETE   packet not full, or inner level not closed        first byte, or the file's length
+ *   11   STAR_TOO_DEEP     loop_ that opens level 9                          first byte
+ *   13   STAR_NOT_FOUND    not found                                         0
+ *   14   STAR_OUTSIDE      a number, row or link that points outside, or a   0
+ *                          link to a row not later or not of the same name;
+ *                          a layout that is neither 0 nor 1
+ *   15   STAR_NO_INDEX     slots are no index of the file's names            0
+ *   16   STAR_HEADER_STOP  a header stop: stop_ after the names of a loop    its first byte
+ *                          of two levels or more
  *
  * 12 is not used: readers that do not know global blocks give it at global_.
  *
  * Order of checking: 14 for a layout; 1; 2 over the whole file; the first token
  * faulty by 3 to 6; 7 for table 1; the first token that breaks the grammar of the
- * layout, 8 to 11; 7 for tables 2 to 5, the lowest number first.
+ * layout, 8 to 11 and 16; 7 for tables 2 to 5, the lowest number first.
  *
  * NUMBERS. A value of kind 7 is a number where its content is, in this order:
  * + or - or no sign; digits, one at least, with no point or one point before,
@@ -198,7 +210,8 @@ enum star_refusal {
     STAR_TOO_DEEP = 11,
     STAR_NOT_FOUND = 13,
     STAR_OUTSIDE = 14,
-    STAR_NO_INDEX = 15
+    STAR_NO_INDEX = 15,
+    STAR_HEADER_STOP = 16
 };
 
 /* The layouts, as the table above has them. */
@@ -305,7 +318,7 @@ enum star_number_form {
  * that begins with ; has a blank before it, and a text field whose content ends
  * in 13 has 13, 10 before its closing ;, where the file may have one byte. No
  * token is both. In the other layout it has as many bytes: save_ and stop_ are of
- * one length.
+ * one length. Without header stops it has fewer.
  */
 #define STAR_PLAIN_BYTES(n) (STAR_READ_BYTES_(n) + 1 + STAR_MOST_TOKENS(n))
 
@@ -314,7 +327,7 @@ typedef struct {
     uint32_t refusal, place, tokens, sets, names, packets, values;
 } star_reading;
 
-/* The rows in each table, as a reading, a writing, a conversion, a check or the building of an index answered them. */
+/* The rows in each table, as a reading, a writing, a conversion, the dropping of header stops, a check or the building of an index answered them. */
 typedef struct {
     uint32_t tokens, sets, names, packets, values;
 } star_counts;
@@ -352,7 +365,7 @@ typedef struct {
     double value, uncertainty;
 } star_value_number_t;
 
-/* What writing and conversion answer: as reading, and the length of the plain form. */
+/* What writing, conversion and the dropping of header stops answer: as reading, and the length of the plain form. */
 typedef struct {
     uint32_t refusal, place, length, tokens, sets, names, packets, values;
 } star_written;
@@ -370,7 +383,7 @@ static inline star_counts star_counts_of(star_reading reading)
     return counts;
 }
 
-/* The rows of a writing or a conversion, as lookups take them. */
+/* The rows of a writing, a conversion or the dropping of header stops, as lookups take them. */
 static inline star_counts star_counts_of_written(star_written written)
 {
     star_counts counts = {written.tokens, written.sets, written.names, written.packets,
@@ -389,9 +402,9 @@ static inline star_counts star_counts_of_checked(star_checked checked)
 /*
  * Reads a file of this layout: 0 for today's, 1 for that of 1991.
  *
- * Refusals: 14, place 0, if the layout is any other number; then 1 to 11. The
- * number and place of the first check that fails, in the order given above; both
- * 0 when the file is accepted.
+ * Refusals: 14, place 0, if the layout is any other number; then 1 to 11 and 16.
+ * The number and place of the first check that fails, in the order given above;
+ * both 0 when the file is accepted.
  * Afterwards: accepted, each table holds its rows and 0 in every word after
  * them, and the counts are those of the rows. Refused, every word of every
  * table is 0 and the counts are 0. What the tables held before never matters.
@@ -594,6 +607,35 @@ star_written star_convert(const uint8_t *file, size_t file_len, uint32_t layout,
                           uint32_t *packets, size_t packets_len,
                           uint32_t *values, size_t values_len,
                           uint8_t *out, size_t out_len);
+
+/*
+ * Reads an old file, by the rules of today's layout but with header stops, and
+ * writes its plain form without them: its other tokens as star_write writes them.
+ * What is written is accepted by star_read in today's layout, with the same sets,
+ * names, packets and values in the same order, all rows and contents the same but
+ * for the numbers of token rows and for offsets; star_write gives the same bytes of
+ * it again. Of a file without header stops this call answers and writes what
+ * star_write does.
+ *
+ * Refusals: those of star_read for today's layout, but never 16: a header stop is
+ * taken, and what follows it is 8 unless it is a value or, while an inner level
+ * is left for it, one more header stop; then 1, place 0, if the plain form without
+ * the header stops is over 1,048,576 bytes; then 7, place 6, if the output is too
+ * short for that form.
+ * Afterwards: accepted, the output holds the plain form without the header stops
+ * and 0 in every byte after it, the tables hold the reading of the old file, its
+ * header stops among the tokens of table 1, the length is that of what is written,
+ * and the counts are those of the old file; so lookups in these tables take the
+ * old file. Refused, every byte of the output and every word of every table is 0,
+ * the length is 0 and the counts are 0.
+ */
+star_written star_drop_header_stops(const uint8_t *file, size_t file_len,
+                                    uint32_t *tokens, size_t tokens_len,
+                                    uint32_t *sets, size_t sets_len,
+                                    uint32_t *names, size_t names_len,
+                                    uint32_t *packets, size_t packets_len,
+                                    uint32_t *values, size_t values_len,
+                                    uint8_t *out, size_t out_len);
 
 /*
  * Reads a file of today's layout and answers whether it may go to a reader that

@@ -35,6 +35,8 @@ pub const STAR_NOT_FOUND: u32 = 13;
 pub const STAR_OUTSIDE: u32 = 14;
 /// Slots that are no index of the file's names.
 pub const STAR_NO_INDEX: u32 = 15;
+/// A header stop: `stop_` after the names of a loop of two levels or more.
+pub const STAR_HEADER_STOP: u32 = 16;
 
 // --------------------------------------------------------------- layouts
 
@@ -297,7 +299,8 @@ pub struct ValueNumber {
     pub uncertainty: f64,
 }
 
-/// What writing and conversion answer: as reading, and the length of the plain form.
+/// What writing, conversion and the dropping of header stops answer: as reading, and the
+/// length of the plain form.
 #[repr(C)]
 #[derive(Clone, Copy, Debug, Default, PartialEq, Eq)]
 pub struct Written {
@@ -506,6 +509,24 @@ extern "C" {
         file: *const u8,
         file_len: usize,
         layout: u32,
+        tokens: *mut u32,
+        tokens_len: usize,
+        sets: *mut u32,
+        sets_len: usize,
+        names: *mut u32,
+        names_len: usize,
+        packets: *mut u32,
+        packets_len: usize,
+        values: *mut u32,
+        values_len: usize,
+        out: *mut u8,
+        out_len: usize,
+    ) -> Written;
+
+    /// See include/star.h.
+    pub fn star_drop_header_stops(
+        file: *const u8,
+        file_len: usize,
         tokens: *mut u32,
         tokens_len: usize,
         sets: *mut u32,

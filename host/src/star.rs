@@ -166,7 +166,8 @@ pub const fn room(bytes: usize) -> [usize; 5] {
 }
 
 /// The bytes to lend to the output for a file of so many bytes: it is then not
-/// too short, whatever the file holds, for writing and for conversion.
+/// too short, whatever the file holds, for writing, for conversion and for dropping
+/// header stops.
 pub const fn plain_room(bytes: usize) -> usize {
     raw::star_plain_bytes(bytes)
 }
@@ -200,7 +201,8 @@ pub(crate) use fill;
 
 /// Reads a file of this layout into the tables: [`raw::STAR_LAYOUT_TODAY`] or
 /// [`raw::STAR_LAYOUT_1991`]. Any other number is refused. The other calls that read a
-/// file, but for [`convert`], read today's.
+/// file, but for [`convert`], read today's. A header stop is refused by
+/// [`raw::STAR_HEADER_STOP`] in either; only [`drop_header_stops`] takes it.
 pub fn read(file: &[u8], layout: u32, tables: TablesMut<'_>) -> Reading {
     fill!(star_read, file; layout, tables)
 }
@@ -228,6 +230,28 @@ pub fn write(file: &[u8], tables: TablesMut<'_>, out: &mut [u8]) -> Written {
 /// ```
 pub fn convert(file: &[u8], layout: u32, tables: TablesMut<'_>, out: &mut [u8]) -> Written {
     fill!(star_convert, file; layout, tables, out.as_mut_ptr(), out.len())
+}
+
+/// Reads an old file, of today's layout and with header stops, into the tables and writes
+/// its plain form without them. The tables are those of the old file.
+///
+/// ```
+/// use tackturnel::{raw, star, TablesMut};
+///
+/// let old = b"data_a loop_ _x loop_ _y stop_ 1 2 stop_";
+/// let mut tables = star::room(old.len()).map(|words| vec![0; words]);
+/// let reading = star::read(old, raw::STAR_LAYOUT_TODAY, TablesMut::of(&mut tables));
+/// assert_eq!((reading.refusal, reading.place), (raw::STAR_HEADER_STOP, 25));
+///
+/// let mut out = vec![0; star::plain_room(old.len())];
+/// let written = star::drop_header_stops(old, TablesMut::of(&mut tables), &mut out);
+/// let today = &out[..written.length as usize];
+/// assert_eq!(today, b"data_a\nloop_\n_x\nloop_\n_y\n1\n2\nstop_\n");
+/// let reading = star::read(today, raw::STAR_LAYOUT_TODAY, TablesMut::of(&mut tables));
+/// assert_eq!(reading.refusal, raw::STAR_OK);
+/// ```
+pub fn drop_header_stops(file: &[u8], tables: TablesMut<'_>, out: &mut [u8]) -> Written {
+    fill!(star_drop_header_stops, file, tables, out.as_mut_ptr(), out.len())
 }
 
 /// Reads a file into the tables and answers whether every name and code fits 32

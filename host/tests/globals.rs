@@ -76,7 +76,8 @@ fn known_files() {
         ("data_a loop_ _x loop_ _y 1 2 global_", raw::STAR_INCOMPLETE, 29),
         ("data_a _x global_", raw::STAR_MISPLACED, 10),
         ("data_a loop_ _x global_", raw::STAR_MISPLACED, 16),
-        ("data_a loop_ _x loop_ _y stop_ global_", raw::STAR_MISPLACED, 31),
+        ("data_a loop_ _x loop_ _y global_", raw::STAR_MISPLACED, 25),
+        ("data_a loop_ _x loop_ _y stop_ global_", raw::STAR_HEADER_STOP, 25),
         // names and frame codes are unique in one block, block codes in the file
         ("global_ _x 1 _x 2", raw::STAR_TAKEN, 13),
         ("global_ save_f save_ save_f save_", raw::STAR_TAKEN, 21),

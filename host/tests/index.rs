@@ -102,6 +102,8 @@ fn known_checks() {
     // reading's refusals come first
     assert_eq!(checked("data_a _x", &[]), (raw::STAR_MISPLACED, 9));
     assert_eq!(checked("data_a _x 1 _x 2", &[9, 9]), (raw::STAR_TAKEN, 12));
+    let retired = (raw::STAR_HEADER_STOP, 25);
+    assert_eq!(checked("data_a loop_ _x loop_ _y stop_ 1 stop_", &[0, 1, 2]), retired);
 }
 
 /// Every row of up to six slots, for files of up to three names in one set and in more.
@@ -256,8 +258,8 @@ fn generated_files() {
             });
         }
     });
-    require_refusals("building", &building, &[0, 2, 3, 4, 5, 6, 7, 8, 9, 10, 11]);
-    require_refusals("checking", &checking, &[0, 2, 3, 4, 5, 6, 7, 8, 9, 10, 11, 15]);
+    require_refusals("building", &building, &[0, 2, 3, 4, 5, 6, 7, 8, 9, 10, 11, 16]);
+    require_refusals("checking", &checking, &[0, 2, 3, 4, 5, 6, 7, 8, 9, 10, 11, 15, 16]);
     require("building", &[("7 with place 8", short)], 100);
 }
 
@@ -350,7 +352,12 @@ fn generated_slots() {
 /// Reading's refusals come first, whatever the slots are, with tables of every length.
 #[test]
 fn tables_of_every_length() {
-    let files = ["data_a _x 1 save_f loop_ _x 1 2 save_", "global_ _x 1 data_a _y 2", "data_a _x"];
+    let files = [
+        "data_a _x 1 save_f loop_ _x 1 2 save_",
+        "global_ _x 1 data_a _y 2",
+        "data_a _x",
+        "data_a loop_ _x loop_ _y stop_ 1 stop_",
+    ];
     for file in files.map(str::as_bytes) {
         let needed = reference::words_needed(file);
         for table in 0..5 {

@@ -75,6 +75,7 @@ fn known_files() {
     let misplaced = |place: u32| (raw::STAR_MISPLACED, place);
     let incomplete = |place: u32| (raw::STAR_INCOMPLETE, place);
     let taken = |place: u32| (raw::STAR_TAKEN, place);
+    let retired = |place: u32| (raw::STAR_HEADER_STOP, place);
     for (file, today, of_1991) in [
         // an empty frame, an item, a flat loop
         ("data_a save_f stop_", misplaced(14), OK),
@@ -107,9 +108,10 @@ fn known_files() {
         // headers, and a name that waits for its value
         ("data_a save_f loop_ stop_", misplaced(20), misplaced(20)),
         ("data_a save_f loop_ _x stop_", misplaced(23), misplaced(23)),
-        ("data_a save_f loop_ _x loop_ _y stop_ stop_", misplaced(38), misplaced(38)),
-        ("data_a save_f loop_ _x loop_ _y stop_ save_", misplaced(38), misplaced(38)),
-        ("data_a save_f loop_ _x loop_ _y stop_ 1 stop_ stop_", misplaced(46), OK),
+        ("data_a save_f loop_ _x loop_ _y stop_ stop_", retired(32), retired(32)),
+        ("data_a save_f loop_ _x loop_ _y stop_ save_", retired(32), retired(32)),
+        ("data_a save_f loop_ _x loop_ _y stop_ 1 stop_ stop_", retired(32), retired(32)),
+        ("data_a save_f loop_ _x loop_ _y save_", misplaced(32), misplaced(32)),
         ("data_a save_f _x stop_", misplaced(17), misplaced(17)),
         ("data_a save_f _x save_", misplaced(17), misplaced(17)),
         // several frames, in data and global blocks
@@ -149,13 +151,13 @@ fn known_conversions() {
         (OF_1991, "#c/data_a\tsave_f _x 1 #c/stop_ _x 2", "data_a/save_f/_x/1/save_/_x/2/"),
         (
             OF_1991,
-            "data_a save_f loop_ _x loop_ _y stop_ 1 2 stop_ 3 stop_ stop_ loop_ _x loop_ _y 1 stop_",
-            "data_a/save_f/loop_/_x/loop_/_y/stop_/1/2/stop_/3/stop_/save_/loop_/_x/loop_/_y/1/stop_/",
+            "data_a save_f loop_ _x loop_ _y 1 2 stop_ 3 stop_ stop_ loop_ _x loop_ _y 1 stop_",
+            "data_a/save_f/loop_/_x/loop_/_y/1/2/stop_/3/stop_/save_/loop_/_x/loop_/_y/1/stop_/",
         ),
         (
             TODAY,
-            "data_a save_f loop_ _x loop_ _y stop_ 1 2 stop_ 3 stop_ save_ loop_ _x loop_ _y 1 stop_",
-            "data_a/save_f/loop_/_x/loop_/_y/stop_/1/2/stop_/3/stop_/stop_/loop_/_x/loop_/_y/1/stop_/",
+            "data_a save_f loop_ _x loop_ _y 1 2 stop_ 3 stop_ save_ loop_ _x loop_ _y 1 stop_",
+            "data_a/save_f/loop_/_x/loop_/_y/1/2/stop_/3/stop_/stop_/loop_/_x/loop_/_y/1/stop_/",
         ),
         (
             OF_1991,
@@ -183,6 +185,11 @@ fn known_conversions() {
     ] {
         let (written, _) = convert("known conversions", 0, file, layout, spare, spare_out);
         assert_eq!((written.refusal, written.place), answer, "{layout}, {spare:?}, {spare_out}");
+    }
+    for (layout, close) in [(OF_1991, "stop_"), (TODAY, "save_")] {
+        let file = format!("data_a save_f loop_ _x loop_ _y stop_ 1 2 stop_ 3 stop_ {close}");
+        let (written, _) = convert("known conversions", 0, file.as_bytes(), layout, [0; 5], 0);
+        assert_eq!((written.refusal, written.place), (raw::STAR_HEADER_STOP, 32), "{file}");
     }
 }
 
@@ -303,7 +310,7 @@ struct Refused {
 }
 
 /// Refusals at what may close a frame or a level, and at the end; each has to be met.
-const PLACES: [(&str, Refused); 31] = {
+const PLACES: [(&str, Refused); 33] = {
     const END: u32 = 0;
     const SAVE: u32 = 3;
     const STOP: u32 = 5;
@@ -316,6 +323,7 @@ const PLACES: [(&str, Refused); 31] = {
         ("today, stop_ after a block's heading", of(0, 8, STOP, 1)),
         ("today, stop_ after loop_", of(0, 8, STOP, 4)),
         ("today, stop_ after a name", of(0, 8, STOP, 6)),
+        ("today, stop_ after the names of two levels or more", of(0, 16, STOP, 6)),
         ("today, stop_ after an item or a loop", of(0, 8, STOP, 7)),
         ("today, stop_ after an inner level", of(0, 8, STOP, 5)),
         ("today, stop_ in a packet", of(0, 10, STOP, 7)),
@@ -337,6 +345,7 @@ const PLACES: [(&str, Refused); 31] = {
         ("1991, stop_ after a block's heading", of(1, 8, STOP, 1)),
         ("1991, stop_ after loop_", of(1, 8, STOP, 4)),
         ("1991, stop_ after a name", of(1, 8, STOP, 6)),
+        ("1991, stop_ after the names of two levels or more", of(1, 16, STOP, 6)),
         ("1991, stop_ after a block's item or flat loop", of(1, 8, STOP, 7)),
         ("1991, stop_ in a packet", of(1, 10, STOP, 7)),
         ("1991, the end after a frame's heading", of(1, 8, END, 2)),
@@ -346,17 +355,22 @@ const PLACES: [(&str, Refused); 31] = {
 };
 
 /// Refusals that no file has: in the layout of 1991 nothing is taken after `save_` alone,
-/// and `stop_` is taken after the heading of a frame.
+/// and `stop_` is taken after the heading of a frame. In either, 16 is at `stop_` after a
+/// name alone.
 fn is_never(place: Refused) -> bool {
-    let stop_after_heading =
-        (place.at, place.after) == (raw::STAR_TOKEN_STOP, raw::STAR_TOKEN_FRAME);
-    place.layout == OF_1991 && (place.after == raw::STAR_TOKEN_FRAME_END || stop_after_heading)
+    let stop_after = |kind: u32| (place.at, place.after) == (raw::STAR_TOKEN_STOP, kind);
+    if place.refusal == raw::STAR_HEADER_STOP {
+        return !stop_after(raw::STAR_TOKEN_NAME);
+    }
+    let after_end = place.after == raw::STAR_TOKEN_FRAME_END;
+    place.layout == OF_1991 && (after_end || stop_after(raw::STAR_TOKEN_FRAME))
 }
 
-/// Where a file that splits into tokens was refused, if it was by 8 or 10.
+/// Where a file that splits into tokens was refused, if it was by 8, 10 or 16.
 fn place_of(file: &[u8], layout: u32, reading: Reading) -> Option<Refused> {
     let Reading { refusal, place, .. } = reading;
-    if refusal != raw::STAR_MISPLACED && refusal != raw::STAR_INCOMPLETE {
+    let sought = [raw::STAR_MISPLACED, raw::STAR_INCOMPLETE, raw::STAR_HEADER_STOP];
+    if !sought.contains(&refusal) {
         return None;
     }
     let tokens = reference::tokens(file).expect("the file splits into tokens");
@@ -413,7 +427,7 @@ fn generated_files() {
         let (answer, _) = convert("converting", seed, &file, layout, [3; 5], 0);
         assert_eq!((answer.refusal, answer.place), (raw::STAR_OUTSIDE, 0), "seed {seed}");
     });
-    let refusals = [0, 2, 3, 4, 5, 6, 7, 8, 9, 10, 11];
+    let refusals = [0, 2, 3, 4, 5, 6, 7, 8, 9, 10, 11, 16];
     for layout in LAYOUTS {
         let at = layout as usize;
         require_refusals(&format!("reading layout {layout}"), &reading[at], &refusals);
@@ -605,7 +619,7 @@ fn every_row_of_tokens() {
             every_row(&mut head.into(), layout, &inner, 9, &mut tally);
         }
     }
-    require_refusals("every row of tokens", &tally, &[0, 8, 9, 10, 11]);
+    require_refusals("every row of tokens", &tally, &[0, 8, 9, 10, 11, 16]);
 }
 
 #[test]
@@ -619,6 +633,7 @@ fn tables_and_outputs_of_every_length() {
         "data_a save_f _x stop_",
         "data_a save_f",
         "data_a loop_ _x loop_ _y 1 stop_",
+        "data_a save_f loop_ _x loop_ _y stop_ 1 stop_ stop_",
         "",
     ]
     .map(str::as_bytes)

@@ -5,8 +5,8 @@ use std::process::Command;
 
 use tackturnel::{index, raw, star, Counts, NumberForm, Reading, Tables, TablesMut, Written};
 use tackturnel_tests_support::notation::{
-    built_vectors, checked_vectors, escaped, layout_vectors, name_vectors, number_vectors,
-    slot_vectors, vectors, IndexVector, LayoutVector, NameVector, Vector,
+    built_vectors, checked_vectors, dropped_vectors, escaped, layout_vectors, name_vectors,
+    number_vectors, slot_vectors, vectors, IndexVector, LayoutVector, NameVector, Vector,
 };
 use tackturnel_tests_support::reference;
 
@@ -61,6 +61,11 @@ fn column_vectors_are_answered() {
     answer_vectors("106.txt", include_str!("../vectors/106.txt"), 9);
 }
 
+#[test]
+fn header_stop_vectors_are_answered() {
+    answer_vectors("109.txt", include_str!("../vectors/109.txt"), 16);
+}
+
 /// Answers the vectors of a list of so many.
 fn answer_vectors(name: &str, list: &str, count: usize) {
     let list = vectors(list);
@@ -86,6 +91,33 @@ fn answer_vector(vector: &Vector, answers: Answers, shown: &str) {
     let rest = out.split_off(written.length as usize);
     assert_eq!(out, vector.plain, "{shown}");
     assert!(rest.iter().all(|&byte| byte == 0), "{shown}");
+}
+
+/// The answers of dropping header stops, in place of those of reading and writing.
+fn dropped(file: &[u8]) -> Answers {
+    let (mut tables, mut out) = (filled_tables(), vec![7; 2000]);
+    let written = star::drop_header_stops(file, TablesMut::of(&mut tables), &mut out);
+    (written.reading(), tables, written, out)
+}
+
+#[test]
+fn vectors_of_dropped_header_stops_are_answered() {
+    let list = dropped_vectors(include_str!("../vectors/109-dropped.txt"));
+    assert_eq!(list.len(), 16);
+    for vector in list {
+        let shown = format!("line {}: {}", vector.line, escaped(&vector.file));
+        answer_vector(&vector, dropped(&vector.file), &shown);
+        if vector.refusal != raw::STAR_OK {
+            continue;
+        }
+        // what was written is read, and written again as it is
+        let (reading, tables, written, out) = answers(&vector.plain);
+        assert_eq!(out[..written.length as usize], vector.plain, "{shown}");
+        let Counts { sets, names, packets, values, .. } = reading.counts();
+        assert_eq!([sets, names, packets, values], vector.counts[1..], "{shown}");
+        let (reading, same_tables, ..) = dropped(&vector.plain);
+        assert_eq!((reading.tokens, same_tables), (written.tokens, tables), "{shown}");
+    }
 }
 
 #[test]
@@ -125,7 +157,11 @@ fn vectors_of_lookups_are_answered() {
     let list = name_vectors(include_str!("../vectors/105-names.txt"));
     assert_eq!(list.len(), 252);
     for NameVector { line, file, set, name, answer } in list {
-        let (reading, tables, ..) = answers(&file);
+        let (reading, tables, ..) = match answers(&file) {
+            // an old file: the lookup is in the tables of its own reading
+            (reading, ..) if reading.refusal == raw::STAR_HEADER_STOP => dropped(&file),
+            answers => answers,
+        };
         let before = tables.clone();
         let found = star::find_name(&file, Tables::of(&tables), reading.counts(), set, &name);
         assert_eq!(found, answer, "line {line}: {} {set} {}", escaped(&file), escaped(&name));
@@ -478,6 +514,40 @@ fn measurement_of_1991_is_read() {
     }
 }
 
+/// The measurement as an older bench wrote it, with the header stops of a loop of three
+/// levels: refused at the first of them, and the measurement when they are dropped.
+#[test]
+fn measurement_with_header_stops_is_dropped() {
+    let file = include_str!("../../examples/measurement.star");
+    let (names, values) = ("      _meas_sigma\n", "4.2551 9.581\n");
+    let stops = "stop_ stop_                       # header stops of the inner levels\n";
+    let old = file.replace(&[names, values].concat(), &[names, stops, values].concat());
+    assert_eq!(old.len(), file.len() + stops.len());
+    let place = old.find(stops).map_or(0, |at| at as u32);
+    let mut tables: [Vec<u32>; 5] = std::array::from_fn(|_| vec![7; 16_384]);
+    for layout in [raw::STAR_LAYOUT_TODAY, raw::STAR_LAYOUT_1991] {
+        // as the layout has what closes a frame
+        let close = ["\nsave_\n", "\nstop_\n"][layout as usize];
+        let old = old.replace("\nsave_\n", close);
+        let reading = star::read(old.as_bytes(), layout, TablesMut::of(&mut tables));
+        let refused = Reading { refusal: raw::STAR_HEADER_STOP, place, ..Reading::default() };
+        assert_eq!(reading, refused, "layout {layout}");
+    }
+    let (counts, of_file, plain) = written(file.as_bytes());
+    let mut out = vec![7; star::plain_room(old.len())];
+    let answer = star::drop_header_stops(old.as_bytes(), TablesMut::of(&mut tables), &mut out);
+    let with_stops = Counts { tokens: counts.tokens + 2, ..counts };
+    assert_eq!((answer.refusal, answer.counts()), (raw::STAR_OK, with_stops));
+    assert_eq!(escaped(&out[..answer.length as usize]), escaped(&plain));
+    // the same values, each in its own file
+    let (of_old, of_file) = (Tables::of(&tables), Tables::of(&of_file));
+    for row in 1..=counts.names {
+        let one: Vec<_> = star::column(old.as_bytes(), of_old, with_stops, row).collect();
+        let other: Vec<_> = star::column(file.as_bytes(), of_file, counts, row).collect();
+        assert_eq!(one, other, "name row {row}");
+    }
+}
+
 /// The answer with the room that the file's length asks for, one table having
 /// this many words less.
 fn read_by_length(file: &str, table: usize, less: usize) -> Reading {
@@ -586,6 +656,7 @@ fn constants_name_the_answers() {
         ("data_a _x 'a".into(), raw::STAR_OPEN_QUOTE),
         ("data_a _x\n;p".into(), raw::STAR_OPEN_TEXT),
         ("data_a _x".into(), raw::STAR_MISPLACED),
+        ("data_a loop_ _x loop_ _y stop_ 1 stop_".into(), raw::STAR_HEADER_STOP),
         ("data_a data_a".into(), raw::STAR_TAKEN),
         ("data_a loop_ _x _y 1 2 3".into(), raw::STAR_INCOMPLETE),
         ("data_a loop_ _x loop_ _y 1".into(), raw::STAR_INCOMPLETE),

@@ -1,25 +1,26 @@
 -- The demands on the library, whole: each is the product of its sentences, which the crates below state. Believed; proofs/Demands.antt proves them. What is said of reading for all usable
--- rules is said of the library in each layout, since today's are usable and those of 1991.
+-- rules is said of the library in each layout and of old files, since today's rules are usable, those of 1991 and those with header stops.
 use mathlib.Core.Path.{_≡_}
 use mathlib.Core.Bool.{true, false}
 use Rattle.star_text.specs.Demands.{CompareEqual, ComparePairs, CompareStops}
-use Rattle.star_lex.specs.Rules.{today, rules1991, layoutRules, oldBench}
+use Rattle.star_lex.specs.Rules.{today, rules1991, oldHeaders, layoutRules, oldBench}
 use Rattle.star_lex.specs.Demands.{NoPairAsBefore, WindowsSplits}
-use Rattle.star_read.specs.Demands.{Usable, AcceptedExactly, OneReading, RowsOfReading, PlaceOfRefusal, RefusalNumber, NumbersExclude, GlobalNumber, SaveNumber, ReadingSettled, OneOutcome, ReadAnswers, ByLayout, WindowsReads, OldFilesReadAsBefore, OldBenchRefuses, OldBenchSameOrFour}
+use Rattle.star_read.specs.Demands.{Usable, AcceptedExactly, OneReading, RowsOfReading, PlaceOfRefusal, RefusalNumber, NumbersExclude, GlobalNumber, SaveNumber, ReadingSettled, OneOutcome, ReadAnswers, ByLayout, WindowsReads, OldFilesReadAsBefore, OldBenchRefuses, OldBenchSameOrFour, SameOrSixteen}
 use Rattle.star_find.specs.Demands.{LookupByName, LookupBlock, LookupFrame, LookupsAnswer}
 use Rattle.star_value.specs.Demands.{ValuesInOrder, Column, SpanPart, ValuesAnswer}
 use Rattle.star_number.specs.Demands.{NumberExact, NumberPieces, WholeExact, PowerExact, RoundedOnce, FloatsFinite, NumbersKnown, NumbersInOrder, NumbersAnswer}
 use Rattle.star_write.specs.Demands.{RoundTrip, WritesAgain, WriteAnswers}
 use Rattle.star_convert.specs.Demands.{OverAndBack, ConvertedReads, ConvertAnswers}
+use Rattle.star_stops.specs.Demands.{StopsDropped, DroppedWritesAgain, DropAnswers}
 use Rattle.star_check.specs.Demands.{Fits32, Fits32No, FitsAnswers}
 use Rattle.star_index.specs.Demands.{IndexExactly, IndexLookup}
 use Rattle.star_build.specs.Known.{IndexKnown}
 use Rattle.star_build.specs.Demands.{IndexBuilt, IndexAnswers}
 
 -- for every input of every call the number is 0 or one that the call may give, with its place in range; on a refusal what was lent for writing is 0,
--- and so are counts, length, kind, packet, row and yes; reading, writing, conversion, the checks and the builder of an index answer 0 only with a reading
+-- and so are counts, length, kind, packet, row and yes; reading, writing, conversion, dropping header stops, the checks and the builder of an index answer 0 only with a reading
 abbrev pub Demand1 : Type 0
-Demand1 = ReadAnswers × LookupsAnswer × ValuesAnswer × NumbersAnswer × WriteAnswers × ConvertAnswers × FitsAnswers × IndexAnswers
+Demand1 = ReadAnswers × LookupsAnswer × ValuesAnswer × NumbersAnswer × WriteAnswers × ConvertAnswers × DropAnswers × FitsAnswers × IndexAnswers
 
 -- an accepted file gives the rows of its reading; data blocks, frames and values are found in them, each value as that part of the file; the plain form
 -- reads back the same, and is written again as the same bytes
@@ -29,7 +30,7 @@ Demand2 = Usable today × Usable rules1991 × RowsOfReading × LookupBlock × Lo
 -- accepted exactly what has a reading; one reading; its tables; the place and number of a refusal, of which one alone holds, and 8 or 10 at `global_` and, where `stop_` closes frames, at `save_`; lookup by name; and, for
 -- any file and any tables, what reading gives, of which there is one
 abbrev pub Demand3 : Type 0
-Demand3 = Usable today × Usable rules1991 × AcceptedExactly × OneReading × RowsOfReading × PlaceOfRefusal × RefusalNumber × NumbersExclude × GlobalNumber × SaveNumber × LookupByName × ReadingSettled
+Demand3 = Usable today × Usable rules1991 × Usable oldHeaders × AcceptedExactly × OneReading × RowsOfReading × PlaceOfRefusal × RefusalNumber × NumbersExclude × GlobalNumber × SaveNumber × LookupByName × ReadingSettled
     × OneOutcome
 
 -- specification 17: a value is a number exactly when its content is pieces of one, in one way, and is theirs; the floats of digits and powers of ten are without loss, so
@@ -68,3 +69,8 @@ Indexes = IndexExactly × IndexLookup × IndexBuilt × IndexKnown
 -- which it is the yield there; and converted back it is the file's own plain form
 abbrev pub Layouts : Type 0
 Layouts = (layoutRules 0 ≡ today) × (layoutRules 1 ≡ rules1991) × (today .stopCloses ≡ false) × (rules1991 .stopCloses ≡ true) × ByLayout × ConvertedReads × OverAndBack
+
+-- specification 4.7, 14.16 and 21: loops have no header stops, in either layout, but in old files; without them reading gives what it gives with them, or 16; and what is written of an old file
+-- without its header stops is accepted by today's rules, with the old tree but for them and the same contents in the same order, and is its own plain form
+abbrev pub HeaderStops : Type 0
+HeaderStops = (today .headerStops ≡ false) × (rules1991 .headerStops ≡ false) × (oldHeaders .headerStops ≡ true) × SameOrSixteen × StopsDropped × DroppedWritesAgain

@@ -21,6 +21,7 @@ ghost use Rattle.star_number.specs.Taken.{numberIn};
 ghost use Rattle.star_number.specs.Forms.{formOf, valueNumber, valueFormOf};
 ghost use Rattle.star_write.specs.Answer.{Writes};
 ghost use Rattle.star_convert.specs.Convert.{Converts};
+ghost use Rattle.star_stops.specs.Drop.{DropsStops};
 ghost use Rattle.star_check.specs.Fits.{FitsChecked};
 
 // Reads a file into the five tables: layout 0 is today's, 1 that of 1991, and any other number is refused before all else. On a refusal the counts and
@@ -240,6 +241,25 @@ pub extern "C" fn star_convert(
         (now (out .entry)) (now (out .exit)) r ⌝ }
 {
     star_convert::convert(file, layout, tokens, sets, names, packets, values, out)
+}
+
+// Reads an old file, whose loops may have header stops, into the five tables and writes its plain form without the header stops. On a refusal length, counts, tables and output are all 0.
+#[no_mangle]
+pub extern "C" fn star_drop_header_stops(
+    file: &[u8],
+    tokens: &mut [u32],
+    sets: &mut [u32],
+    names: &mut [u32],
+    packets: &mut [u32],
+    values: &mut [u32],
+    out: &mut [u8],
+) -> Written
+    ensures { λ r. ⌜ DropsStops (now (file .entry))
+        (tables (now (tokens .entry)) (now (sets .entry)) (now (names .entry)) (now (packets .entry)) (now (values .entry)))
+        (tables (now (tokens .exit)) (now (sets .exit)) (now (names .exit)) (now (packets .exit)) (now (values .exit)))
+        (now (out .entry)) (now (out .exit)) r ⌝ }
+{
+    star_stops::drop_header_stops(file, tokens, sets, names, packets, values, out)
 }
 
 // Reads a file into the five tables and answers whether every name and code has at most 32 bytes. After yes or no the tables hold the reading; on a refusal yes, counts and

@@ -64,6 +64,30 @@ pub fn write(file: &[u8], size: u32) {
     );
 }
 
+// Keeps the counts of what was written.
+fn keep_counts(kept: &mut [u32], written: Written) {
+    kept::keep_counts(
+        kept,
+        written.tokens,
+        written.sets,
+        written.names,
+        written.packets,
+        written.values,
+    );
+}
+
+// Prints what was written into so many bytes, and what is kept of the tables.
+fn print_written(written: Written, out: &[u8], size: u32, kept: &[u32]) {
+    print::bar();
+    print::form(
+        written.refusal,
+        written.place,
+        written.length,
+        words::first(out, size),
+    );
+    kept::print_kept(written.refusal, kept);
+}
+
 // Reads a file of a layout into tables of as many words as are lent, none of them 0 before, writes its plain form in the other layout, and keeps what is left of the tables.
 fn convert(file: &[u8], layout: u32, kept: &mut [u32], out: &mut [u8]) -> Written {
     let mut tokens = [FILLED; 1024];
@@ -82,14 +106,7 @@ fn convert(file: &[u8], layout: u32, kept: &mut [u32], out: &mut [u8]) -> Writte
         out,
     );
     kept::keep_tables(kept, &tokens, &sets, &names, &packets, &values);
-    kept::keep_counts(
-        kept,
-        written.tokens,
-        written.sets,
-        written.names,
-        written.packets,
-        written.values,
-    );
+    keep_counts(kept, written);
     written
 }
 
@@ -103,14 +120,35 @@ pub fn turn(given: &[u8], file: &[u8], kept: &mut [u32]) {
         kept,
         words::lend(&mut out, size),
     );
-    print::bar();
-    print::form(
-        written.refusal,
-        written.place,
-        written.length,
-        words::first(&out, size),
+    print_written(written, &out, size, kept);
+}
+
+// Reads an old file into tables of as many words as are lent, none of them 0 before, writes its plain form without header stops, and keeps what is left of the tables.
+fn drop_stops(file: &[u8], kept: &mut [u32], out: &mut [u8]) -> Written {
+    let mut tokens = [FILLED; 1024];
+    let mut sets = [FILLED; 1024];
+    let mut names = [FILLED; 1024];
+    let mut packets = [FILLED; 1024];
+    let mut values = [FILLED; 1024];
+    let written = star_stops::drop_header_stops(
+        file,
+        kept::lend(&mut tokens, kept, 1),
+        kept::lend(&mut sets, kept, 2),
+        kept::lend(&mut names, kept, 3),
+        kept::lend(&mut packets, kept, 4),
+        kept::lend(&mut values, kept, 5),
+        out,
     );
-    kept::print_kept(written.refusal, kept);
+    kept::keep_tables(kept, &tokens, &sets, &names, &packets, &values);
+    keep_counts(kept, written);
+    written
+}
+
+// Drops the header stops of an old file into so many bytes and prints what came out.
+pub fn drop(file: &[u8], size: u32, kept: &mut [u32]) {
+    let mut out = words::room();
+    let written = drop_stops(file, kept, words::lend(&mut out, size));
+    print_written(written, &out, size, kept);
 }
 
 // The five counts, as lookup takes them.

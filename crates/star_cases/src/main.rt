@@ -17,6 +17,7 @@
 //     hash BYTES              the hash of these bytes
 //     old LAYOUT              reads the last file in a layout into the tables that are lent
 //     turn LAYOUT N           reads the last file in a layout and writes its plain form in the other into N bytes
+//     drop N                  reads the last file by the old rules, with header stops, and writes its plain form without them into N bytes
 // Any other line is a remark.
 mod calls;
 mod index;
@@ -94,6 +95,7 @@ fn run_on(line: &[u8], given: &[u8], file: &[u8], kept: &mut [u32]) {
         b'r' => calls::read(file, 0, kept),
         b'o' => calls::read(file, words::number(given), kept),
         b't' => calls::turn(given, file, kept),
+        b'd' => calls::drop(file, words::number(given), kept),
         b'f' => calls::fits(file, kept),
         b'w' => calls::write(file, words::number(given)),
         b's' => kept::set(given, kept),

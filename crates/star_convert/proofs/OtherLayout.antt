@@ -1,6 +1,6 @@
 -- The row of a tree in one layout is, in the other, the tree's row there: a reading in one layout has a reading of the same tree in the other.
 use mathlib.Core.Path.{_≡_, refl, sym, _∙_, ap}
-use mathlib.Core.Bool.{true}
+use mathlib.Core.Bool.{false}
 use mathlib.Core.List.{List}
 use Prim.Native.Nat.{ℕ, _-_, _≤_}
 use native.Mathlib.Omega.{arith}
@@ -8,41 +8,12 @@ use Rattle.star_text.proofs.Cases.{cond-by}
 use lib.Dec.{eqb}
 use Rattle.star_lex.specs.Rules.{Rules, today, rules1991, layoutRules}
 use Rattle.star_lex.specs.Tokens.{Token}
-use Rattle.star_lex.proofs.Each.{each-implies}
-use Rattle.star_grammar.specs.Tree.{frameClose, Loop, LoopBy, Entry, item, looped, EntryBy, Member, own, framed, MemberBy, Block, BlockBy, File, fileYield, FileBy}
+use Rattle.star_grammar.specs.Tree.{frameClose, File, fileYield, FileBy}
 use Rattle.star_grammar.specs.Layout.{todayRow, layoutRow}
 use Rattle.star_grammar.specs.Reading.{ReadingBy}
+use Rattle.star_grammar.proofs.OtherRules.{file-by}
 use Rattle.star_grammar.proofs.Yields.{tree-row, tree-today, yield-by}
 use Rattle.star_convert.specs.Convert.{otherRow}
-
--- a tree sees the number of levels and the header stops, and no other rule
-module _ (rules others : Rules) (levels : rules .levels ≡ others .levels) (stops : rules .headerStops ≡ others .headerStops) where
-  loop-same : (l : Loop) → LoopBy rules l → LoopBy others l
-  loop-same l h = record {
-    some-name = h .some-name;
-    some-names = h .some-names;
-    are-names = h .are-names;
-    are-deeper = h .are-deeper;
-    levels = omega (arith, h .levels, levels);
-    stops-fit = h .stops-fit;
-    stops-allowed = λ e. sym stops ∙ h .stops-allowed e;
-    some-packet = h .some-packet;
-    whole = h .whole;
-  }
-
-  entry-same : (e : Entry) → EntryBy rules e → EntryBy others e
-  entry-same (item n v) h = h
-  entry-same (looped l) h = loop-same l h
-
-  member-same : (m : Member) → MemberBy rules m → MemberBy others m
-  member-same (own e) h = entry-same e h
-  member-same (framed f) h = record { heading = h .heading; entries = each-implies (EntryBy rules) (EntryBy others) entry-same (f .entries) (h .entries) }
-
-  block-same : (b : Block) → BlockBy rules b → BlockBy others b
-  block-same b h = record { heading = h .heading; members = each-implies (MemberBy rules) (MemberBy others) member-same (b .members) (h .members) }
-
-  file-same : (f : File) → FileBy rules f → FileBy others f
-  file-same = each-implies (BlockBy rules) (BlockBy others) block-same
 
 -- what holds of the rules of each layout
 layout-cases : (P : Rules → Type 0) → P rules1991 → P today → (layout : ℕ) → P (layoutRules layout)
@@ -52,11 +23,12 @@ layout-cases P f g layout = cond-by P (eqb layout 1) rules1991 today (λ e. f) (
 levels-are : (layout : ℕ) → layoutRules layout .levels ≡ 8
 levels-are = layout-cases (λ rules. rules .levels ≡ 8) refl refl
 
-stops-are : (layout : ℕ) → layoutRules layout .headerStops ≡ true
-stops-are = layout-cases (λ rules. rules .headerStops ≡ true) refl refl
+stops-are : (layout : ℕ) → layoutRules layout .headerStops ≡ false
+stops-are = layout-cases (λ rules. rules .headerStops ≡ false) refl refl
 
 pub whole-other : (layout : ℕ) (f : File) → FileBy (layoutRules layout) f → FileBy (layoutRules (1 - layout)) f
-whole-other layout = file-same (layoutRules layout) (layoutRules (1 - layout)) (levels-are layout ∙ sym (levels-are (1 - layout))) (stops-are layout ∙ sym (stops-are (1 - layout)))
+whole-other layout =
+    file-by (layoutRules layout) (layoutRules (1 - layout)) (omega (arith, levels-are layout, levels-are (1 - layout))) (λ e. stops-are (1 - layout) ∙ sym (stops-are layout) ∙ e)
 
 -- the row of a tree, in the other layout
 pub other-yield : (layout : ℕ) (f : File) → FileBy (layoutRules layout) f

@@ -9,7 +9,6 @@ use native.Mathlib.Omega.{arith}
 use borrow.Author.Tests.{le-leb}
 use lib.ListN.{length, getD, length-map, List·getD-map}
 use Rattle.star_text.specs.Outcome.{accepted}
-use Rattle.star_lex.specs.Rules.{layoutRules}
 use Rattle.star_rows.specs.Rows.{holding}
 use Rattle.star_rows.proofs.Held.{holding-room}
 use Rattle.star_text.specs.Names.{key}
@@ -24,10 +23,9 @@ use Rattle.star_grammar.proofs.Linked.{Linked, tree-linked}
 use Rattle.star_grammar.proofs.RowsOf.{contentIn, nameIn, setIn, fileNames, fileSets, IsToken, Inside, TreeRows, tree-rows}
 use Rattle.star_lex.specs.Holds.{tokenAt}
 use Rattle.star_lex.proofs.Held.{Row, held-row, held-some}
-use Rattle.star_read.specs.Read.{Sizes, tokensOnly, readIn}
-use Rattle.star_read.proofs.Demand3.{rows-of-reading, one-reading}
-use Rattle.star_read.proofs.InLayout.{layout-usable, in-accepted}
-use Rattle.star_read.proofs.Accepted.{split-in, holds-in}
+use Rattle.star_read.specs.Read.{Sizes, tokensOnly, Way, wayRules, readVia}
+use Rattle.star_read.proofs.Demand3.{one-reading}
+use Rattle.star_read.proofs.Accepted.{split-via, holds-via, rows-via}
 use Rattle.star_read.specs.Answer.{readAnswer, tablesOf}
 use Rattle.star_find.specs.Find.{Lent, fits, isRow, contentAt, countsFit}
 use Rattle.star_find.specs.Demands.{lentAfter, countsAfter, contentOf}
@@ -54,12 +52,12 @@ counted ps rows = record {
 }
 
 -- they are what reading leaves and answers
-module _ (layout : ℕ) (file : List ℕ) (words : Sizes) (ps : List Placed) (rows : Rows) (e : readIn layout file words ≡ accepted (ps, rows)) where
-  pub lent-left : lentAfter layout file words ≡ left file words ps rows
+module _ (way : Way) (file : List ℕ) (words : Sizes) (ps : List Placed) (rows : Rows) (e : readVia way file words ≡ accepted (ps, rows)) where
+  pub lent-left : lentAfter way file words ≡ left file words ps rows
   unfolding tablesOf left
   lent-left = rw e
 
-  pub counts-counted : countsAfter layout file words ≡ counted ps rows
+  pub counts-counted : countsAfter way file words ≡ counted ps rows
   unfolding readAnswer counted
   counts-counted = rw e
 
@@ -93,13 +91,13 @@ content-in ps row =
     ap (λ cs. getD cs (row - 1) []) (map-map (λ t. key (t .content)) (λ p. p .token) ps ∙ sym (map-map key (λ p. p .token .content) ps))
     ∙ List·getD-map key (map (λ p. p .token .content) ps) (row - 1) []
 
-module _ (layout : ℕ) (file : List ℕ) (words : Sizes) (ps : List Placed) (rows : Rows) (e : readIn layout file words ≡ accepted (ps, rows)) (row : ℕ) (is : IsToken (length ps) row) where
+module _ (way : Way) (file : List ℕ) (words : Sizes) (ps : List Placed) (rows : Rows) (e : readVia way file words ≡ accepted (ps, rows)) (row : ℕ) (is : IsToken (length ps) row) where
   pub token-row : Row file (holding tokenRow ps (words .tokens)) (row - 1)
-  token-row = held-row file (holding tokenRow ps (words .tokens)) (length ps) (holds-in layout file words ps rows e) (row - 1) (omega (arith, is .0, is .1))
+  token-row = held-row file (holding tokenRow ps (words .tokens)) (length ps) (holds-via file words ps rows way e) (row - 1) (omega (arith, is .0, is .1))
 
   pub token-at : tokenAt file (row - 1) ≡ getD (tokensOnly ps) (row - 1) (record { kind = 0; content = [] })
   unfolding placed
-  token-at = rw (split-in layout file words ps rows e)
+  token-at = rw (split-via file words ps rows way e)
 
   -- a token row has its token's content
   pub token-content : contentAt file (holding tokenRow ps (words .tokens)) (length ps) row ≡ some (contentOf ps row)
@@ -108,7 +106,7 @@ module _ (layout : ℕ) (file : List ℕ) (words : Sizes) (ps : List Placed) (ro
       rw (
         le-leb 1 row (is .0),
         le-leb row (length ps) (is .1),
-        held-some file (holding tokenRow ps (words .tokens)) (length ps) (holds-in layout file words ps rows e) (row - 1) (omega (arith, is .0, is .1)),
+        held-some file (holding tokenRow ps (words .tokens)) (length ps) (holds-via file words ps rows way e) (row - 1) (omega (arith, is .0, is .1)),
         token-at,
         content-at,
       )
@@ -121,17 +119,16 @@ pub record RowsAfter (ps : List Placed) (rows : Rows) (f : File) : Type 0 where
   pub linked : Linked 1 (rows .values)
 
 -- what is accepted has a reading
-pub reading-in : (layout : ℕ) (file : List ℕ) (words : Sizes) (ps : List Placed) (rows : Rows) → readIn layout file words ≡ accepted (ps, rows)
-    → (r : ReadingBy (layoutRules layout) (tokensOnly ps)) × (rows ≡ rowsOf (r .tree))
-reading-in layout file words ps rows e =
-    let k = rows-of-reading (layoutRules layout) (layout-usable layout) file words ps rows (in-accepted layout file words (ps, rows) e .1) in (k .1, k .2)
+pub reading-in : (way : Way) (file : List ℕ) (words : Sizes) (ps : List Placed) (rows : Rows) → readVia way file words ≡ accepted (ps, rows)
+    → (r : ReadingBy (wayRules way) (tokensOnly ps)) × (rows ≡ rowsOf (r .tree))
+reading-in way file words ps rows e = rows-via file words ps rows way e
 
-pub rows-after : (layout : ℕ) (file : List ℕ) (words : Sizes) (ps : List Placed) (rows : Rows) → readIn layout file words ≡ accepted (ps, rows)
-    → (r : ReadingBy (layoutRules layout) (tokensOnly ps)) → RowsAfter ps rows (r .tree)
-rows-after layout file words ps rows e r =
-    let k : (s : ReadingBy (layoutRules layout) (tokensOnly ps)) × (rows ≡ rowsOf (s .tree)) = reading-in layout file words ps rows e in
-    let q : rows ≡ rowsOf (r .tree) = k .1 ∙ ap rowsOf (one-reading (layoutRules layout) (tokensOnly ps) (k .0) r) in
-    let t : TreeRows (frameClose (layoutRules layout)) (r .tree) = tree-rows (frameClose (layoutRules layout)) (r .tree) in
+pub rows-after : (way : Way) (file : List ℕ) (words : Sizes) (ps : List Placed) (rows : Rows) → readVia way file words ≡ accepted (ps, rows)
+    → (r : ReadingBy (wayRules way) (tokensOnly ps)) → RowsAfter ps rows (r .tree)
+rows-after way file words ps rows e r =
+    let k : (s : ReadingBy (wayRules way) (tokensOnly ps)) × (rows ≡ rowsOf (s .tree)) = reading-in way file words ps rows e in
+    let q : rows ≡ rowsOf (r .tree) = k .1 ∙ ap rowsOf (one-reading (wayRules way) (tokensOnly ps) (k .0) r) in
+    let t : TreeRows (frameClose (wayRules way)) (r .tree) = tree-rows (frameClose (wayRules way)) (r .tree) in
     rw q (record {
       names = rw (r .yield) at (t .names);
       sets = rw (r .yield) at (t .sets);

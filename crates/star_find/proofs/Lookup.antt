@@ -21,7 +21,7 @@ use Rattle.star_grammar.specs.Reading.{blockCode}
 use Rattle.star_grammar.proofs.Widths.{name-wide, set-wide}
 use Rattle.star_grammar.proofs.RowsOf.{contentIn, nameIn, setIn, fileSets, IsToken}
 use Rattle.star_lex.proofs.Each.{each-at}
-use Rattle.star_read.specs.Read.{Sizes, tokensOnly, readIn}
+use Rattle.star_read.specs.Read.{Sizes, tokensOnly, Way, readVia}
 use Rattle.star_find.specs.Find.{rowThere, ownName, askGlobals, askOn, findName, findBlock, findFrame, isRow, look, refused}
 use Rattle.star_find.specs.Demands.{contentOf, HoldsName, FirstName, blockKinds, IsKind, EarlierHolds, Reaches, NameOf, LookupByName, SetWith, LookupBlock, HoldsFrame, LookupFrame}
 use Rattle.star_find.specs.declared.Found.{Found}
@@ -111,7 +111,7 @@ module _ (file : List ℕ) (words : Sizes) (ps : List Placed) (rows : Rows) wher
   find-frame set code = rw (counts-fit file words ps rows)
 
 -- the rows that each search answers, and what they are in the tree
-module _ (layout : ℕ) (file : List ℕ) (words : Sizes) (ps : List Placed) (rows : Rows) (e : readIn layout file words ≡ accepted (ps, rows)) (f : File) (k : RowsAfter ps rows f) where
+module _ (way : Way) (file : List ℕ) (words : Sizes) (ps : List Placed) (rows : Rows) (e : readVia way file words ≡ accepted (ps, rows)) (f : File) (k : RowsAfter ps rows f) where
   names-sought : (set : ℕ) (name : List ℕ)
       → Sought (λ i. HasName ps set name (getD (rows .names) i noName)) (length (rows .names)) (looked-names file words ps rows name set)
   unfolding looked-names left counted nameWords
@@ -119,7 +119,7 @@ module _ (layout : ℕ) (file : List ℕ) (words : Sizes) (ps : List Placed) (ro
       sought-alike (λ i h. let a : (asked set false 0 (nameWords (getD (rows .names) i noName)) ≡ true) ↔ (getD (rows .names) i noName .set ≡ set)
       = asked-first set 0 (nameWords (getD (rows .names) i noName)) in (λ p. (a .0 (p .0), p .1), λ q. (a .1 (q .0), q .1)))
       (look-sought 4 nameWords name-wide noName (rows .names) (words .names) (left file words ps rows) (counted ps rows) set false 0 name (contentOf ps) (omega arith)
-      (λ i h. token-content layout file words ps rows e (getD (rows .names) i noName .name)
+      (λ i h. token-content way file words ps rows e (getD (rows .names) i noName .name)
       (each-at (λ x. IsToken (length ps) (x .name)) (rows .names) i noName h (k .inside .name-tokens))))
 
   sets-sought : (kind : ℕ) (byParent : Bool) (parent : ℕ) (code : List ℕ)
@@ -128,7 +128,7 @@ module _ (layout : ℕ) (file : List ℕ) (words : Sizes) (ps : List Placed) (ro
   unfolding looked-sets left counted setWords
   sets-sought kind byParent parent code =
       look-sought 3 setWords set-wide noSet (rows .sets) (words .sets) (left file words ps rows) (counted ps rows) kind byParent parent code (contentOf ps) (omega arith)
-      (λ i h. token-content layout file words ps rows e (getD (rows .sets) i noSet .heading)
+      (λ i h. token-content way file words ps rows e (getD (rows .sets) i noSet .heading)
       (each-at (λ x. IsToken (length ps) (x .heading)) (rows .sets) i noSet h (k .inside .headings)))
 
   frames-sought : (set : ℕ) (code : List ℕ)
@@ -286,21 +286,21 @@ module _ (layout : ℕ) (file : List ℕ) (words : Sizes) (ps : List Placed) (ro
 
 -- demand 3, fifth sentence
 pub lookup-by-name : LookupByName
-lookup-by-name layout file words ps rows e r set name =
-    let k : RowsAfter ps rows (r .tree) = rows-after layout file words ps rows e r in
-    rw (lent-left layout file words ps rows e, counts-counted layout file words ps rows e)
-    (name-answers layout file words ps rows e (r .tree) k set name (named layout file words ps rows e (r .tree) k set name))
+lookup-by-name way file words ps rows e r set name =
+    let k : RowsAfter ps rows (r .tree) = rows-after way file words ps rows e r in
+    rw (lent-left way file words ps rows e, counts-counted way file words ps rows e)
+    (name-answers way file words ps rows e (r .tree) k set name (named way file words ps rows e (r .tree) k set name))
 
 pub lookup-block : LookupBlock
-lookup-block layout file words ps rows e r code =
+lookup-block way file words ps rows e r code =
     let a : Answers (List·Memᴰ (key code) (flatMap blockCode (r .tree))) (λ i. HasCode ps 1 0 code (getD (rows .sets) i noSet)) (length (rows .sets))
     (findBlock (left file words ps rows) (counted ps rows) code)
-    = block-answers layout file words ps rows e (r .tree) (rows-after layout file words ps rows e r) code in
-    rw (lent-left layout file words ps rows e, counts-counted layout file words ps rows e) (a .0, λ h. set-with ps rows 1 0 code _ (a .1 h))
+    = block-answers way file words ps rows e (r .tree) (rows-after way file words ps rows e r) code in
+    rw (lent-left way file words ps rows e, counts-counted way file words ps rows e) (a .0, λ h. set-with ps rows 1 0 code _ (a .1 h))
 
 pub lookup-frame : LookupFrame
-lookup-frame layout file words ps rows e r set code =
+lookup-frame way file words ps rows e r set code =
     let a : Answers (HoldsFrame (r .tree) set code) (λ i. HasCode ps 2 set code (getD (rows .sets) i noSet)) (length (rows .sets))
     (findFrame (left file words ps rows) (counted ps rows) set code)
-    = frame-answers layout file words ps rows e (r .tree) (rows-after layout file words ps rows e r) set code in
-    rw (lent-left layout file words ps rows e, counts-counted layout file words ps rows e) (a .0, λ h. set-with ps rows 2 set code _ (a .1 h))
+    = frame-answers way file words ps rows e (r .tree) (rows-after way file words ps rows e r) set code in
+    rw (lent-left way file words ps rows e, counts-counted way file words ps rows e) (a .0, λ h. set-with ps rows 2 set code _ (a .1 h))

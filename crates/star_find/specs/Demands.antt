@@ -1,4 +1,4 @@
--- What is demanded of lookup of blocks, frames and names in the tables and counts as the reader left them, in either layout: statements alone, over the reading. Believed; star's Demands cites it.
+-- What is demanded of lookup of blocks, frames and names in the tables and counts as the reader left them, in either layout or as an old file: statements alone, over the reading. Believed; star's Demands cites it.
 use mathlib.Core.Path.{_≡_}
 use mathlib.Core.Logic.{_↔_}
 use mathlib.Core.List.{List, [], _∷_, map, flatMap, List·Memᴰ}
@@ -6,27 +6,26 @@ use Prim.Native.Nat.{ℕ, _-_, _≤_, _<_}
 use lib.ListN.{length, getD}
 use Rattle.star_text.specs.Outcome.{accepted}
 use Rattle.star_text.specs.Names.{key}
-use Rattle.star_lex.specs.Rules.{layoutRules}
 use Rattle.star_lex.specs.Tokens.{Placed}
 use Rattle.star_grammar.specs.Tree.{Member, own, framed, Block, File}
 use Rattle.star_grammar.specs.Tables.{Rows, blockKind}
 use Rattle.star_grammar.specs.Reading.{ReadingBy, entryNames, ownNames, frameCodes, blockCode}
-use Rattle.star_read.specs.Read.{Sizes, tokensOnly, readIn}
+use Rattle.star_read.specs.Read.{Sizes, tokensOnly, Way, wayRules, readVia}
 use Rattle.star_read.specs.Answer.{readAnswer, Tables, tablesOf}
 use Rattle.star_read.specs.declared.Answer.{Answer}
 use Rattle.star_find.specs.Find.{Lent, lent, findName, findBlock, findFrame}
 use Rattle.star_find.specs.declared.Counts.{Counts}
 use Rattle.star_find.specs.declared.Found.{Found}
 
--- the file with the tables that reading in a layout leaves, and the counts that it answers
-abbrev pub lentAfter : (layout : ℕ) → List ℕ → Sizes → Lent
-lentAfter layout file words =
-    let t : Tables = tablesOf (readIn layout file words) words in
+-- the file with the tables that reading in a layout or as an old file leaves, and the counts that it answers
+abbrev pub lentAfter : (way : Way) → List ℕ → Sizes → Lent
+lentAfter way file words =
+    let t : Tables = tablesOf (readVia way file words) words in
     lent file (t .tokens) (t .sets) (t .names) (t .packets) (t .values)
 
-abbrev pub countsAfter : (layout : ℕ) → List ℕ → Sizes → Counts
-countsAfter layout file words =
-    let r : Answer = readAnswer (readIn layout file words) in
+abbrev pub countsAfter : (way : Way) → List ℕ → Sizes → Counts
+countsAfter way file words =
+    let r : Answer = readAnswer (readVia way file words) in
     record { tokens = r .tokens; sets = r .sets; names = r .names; packets = r .packets; values = r .values }
 
 -- the own names of each set of a tree, sets in the order of their first tokens: a block, then its frames
@@ -87,15 +86,15 @@ pub data NameOf (f : File) (set : ℕ) (name : List ℕ) : (of : ℕ) → Type 0
   nearest : (HoldsName f set name → ⊥) → IsKind f 1 set → (global : ℕ) → EarlierHolds f set name global
       → ((other : ℕ) → EarlierHolds f set name other → other ≤ global) → NameOf f set name global
 
--- demand 3, fifth sentence: after acceptance in either layout, for any set number and any name, lookup by name succeeds exactly when there is a set of
+-- demand 3, fifth sentence: after acceptance in either layout or as an old file, for any set number and any name, lookup by name succeeds exactly when there is a set of
 -- that number and it or, for a data block, an earlier global block holds the name, and answers the first row with an equal name of the set whose
 -- name it is
 abbrev pub LookupByName : Type 0
-LookupByName = (layout : ℕ) (file : List ℕ) (words : Sizes) (ps : List Placed) (rows : Rows) → readIn layout file words ≡ accepted (ps, rows)
-    → (r : ReadingBy (layoutRules layout) (tokensOnly ps)) (set : ℕ) (name : List ℕ)
-    → ((findName (lentAfter layout file words) (countsAfter layout file words) set name .refusal ≡ 0) ↔ Reaches (r .tree) set name)
-    × (findName (lentAfter layout file words) (countsAfter layout file words) set name .refusal ≡ 0
-    → (of : ℕ) × NameOf (r .tree) set name of × FirstName ps rows of name (findName (lentAfter layout file words) (countsAfter layout file words) set name .row))
+LookupByName = (way : Way) (file : List ℕ) (words : Sizes) (ps : List Placed) (rows : Rows) → readVia way file words ≡ accepted (ps, rows)
+    → (r : ReadingBy (wayRules way) (tokensOnly ps)) (set : ℕ) (name : List ℕ)
+    → ((findName (lentAfter way file words) (countsAfter way file words) set name .refusal ≡ 0) ↔ Reaches (r .tree) set name)
+    × (findName (lentAfter way file words) (countsAfter way file words) set name .refusal ≡ 0
+    → (of : ℕ) × NameOf (r .tree) set name of × FirstName ps rows of name (findName (lentAfter way file words) (countsAfter way file words) set name .row))
 
 -- a set row of that kind and parent whose code is equal to this one
 pub record SetWith (ps : List Placed) (rows : Rows) (kind parent : ℕ) (code : List ℕ) (row : ℕ) : Type 0 where
@@ -107,11 +106,11 @@ pub record SetWith (ps : List Placed) (rows : Rows) (kind parent : ℕ) (code : 
 
 -- block lookup succeeds exactly when a data block of that code is in the reading
 abbrev pub LookupBlock : Type 0
-LookupBlock = (layout : ℕ) (file : List ℕ) (words : Sizes) (ps : List Placed) (rows : Rows) → readIn layout file words ≡ accepted (ps, rows)
-    → (r : ReadingBy (layoutRules layout) (tokensOnly ps)) (code : List ℕ)
-    → ((findBlock (lentAfter layout file words) (countsAfter layout file words) code .refusal ≡ 0) ↔ List·Memᴰ (key code) (flatMap blockCode (r .tree)))
-    × (findBlock (lentAfter layout file words) (countsAfter layout file words) code .refusal ≡ 0
-    → SetWith ps rows 1 0 code (findBlock (lentAfter layout file words) (countsAfter layout file words) code .row))
+LookupBlock = (way : Way) (file : List ℕ) (words : Sizes) (ps : List Placed) (rows : Rows) → readVia way file words ≡ accepted (ps, rows)
+    → (r : ReadingBy (wayRules way) (tokensOnly ps)) (code : List ℕ)
+    → ((findBlock (lentAfter way file words) (countsAfter way file words) code .refusal ≡ 0) ↔ List·Memᴰ (key code) (flatMap blockCode (r .tree)))
+    × (findBlock (lentAfter way file words) (countsAfter way file words) code .refusal ≡ 0
+    → SetWith ps rows 1 0 code (findBlock (lentAfter way file words) (countsAfter way file words) code .row))
 
 -- the frame codes of each set, sets in the order of their first tokens; a frame has none
 unfoldable pub noCodes : Member → List (List (List ℕ))
@@ -128,11 +127,11 @@ pub record HoldsFrame (f : File) (set : ℕ) (code : List ℕ) : Type 0 where
   pub holds : List·Memᴰ (key code) (getD (flatMap blockCodes f) (set - 1) [])
 
 abbrev pub LookupFrame : Type 0
-LookupFrame = (layout : ℕ) (file : List ℕ) (words : Sizes) (ps : List Placed) (rows : Rows) → readIn layout file words ≡ accepted (ps, rows)
-    → (r : ReadingBy (layoutRules layout) (tokensOnly ps)) (set : ℕ) (code : List ℕ)
-    → ((findFrame (lentAfter layout file words) (countsAfter layout file words) set code .refusal ≡ 0) ↔ HoldsFrame (r .tree) set code)
-    × (findFrame (lentAfter layout file words) (countsAfter layout file words) set code .refusal ≡ 0
-    → SetWith ps rows 2 set code (findFrame (lentAfter layout file words) (countsAfter layout file words) set code .row))
+LookupFrame = (way : Way) (file : List ℕ) (words : Sizes) (ps : List Placed) (rows : Rows) → readVia way file words ≡ accepted (ps, rows)
+    → (r : ReadingBy (wayRules way) (tokensOnly ps)) (set : ℕ) (code : List ℕ)
+    → ((findFrame (lentAfter way file words) (countsAfter way file words) set code .refusal ≡ 0) ↔ HoldsFrame (r .tree) set code)
+    × (findFrame (lentAfter way file words) (countsAfter way file words) set code .refusal ≡ 0
+    → SetWith ps rows 2 set code (findFrame (lentAfter way file words) (countsAfter way file words) set code .row))
 
 -- demand 1, of a lookup among so many rows: a row is found, or the answer is 13 or 14 and row 0
 pub data RowAnswer (rows : ℕ) : Found → Type 0 where

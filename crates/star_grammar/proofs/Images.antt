@@ -8,7 +8,7 @@ use lib.Dec.{eqb}
 use lib.ListN.{length, getD, take}
 use lib.Seq.{take-suc}
 use borrow.Author.Tests.{eqb-true, ne-eqb}
-use Rattle.star_lex.specs.Rules.{Rules, atLevels}
+use Rattle.star_lex.specs.Rules.{Rules, atLevels, atStops}
 use Rattle.star_lex.specs.Tokens.{Token, Each, saveWord, loopWord, stopWord}
 use Rattle.star_grammar.specs.Tables.{Rows, noRows}
 use Rattle.star_grammar.specs.Machine.{sortOf, State, start, Step, go, refuse, stepAt, walk}
@@ -85,6 +85,15 @@ module _ (rules : Rules) where
 
   pub row-length : (p : List Token) → length (todayRow rules p) ≡ length p
   row-length p = ap length (row-image rules p) ∙ image-length (rules .stopCloses) (rules .levels) (outside false) p
+
+-- header stops have no part in it
+pub row-stops : (rules : Rules) (b : Bool) (p : List Token) → todayRow (atStops rules b) p ≡ todayRow rules p
+unfolding todayRow
+row-stops rules b p = refl
+
+pub image-stops : (rules : Rules) (b : Bool) (p : List Token) (t : Token) → rowImage (atStops rules b) p t ≡ rowImage rules p t
+unfolding rowImage
+image-stops rules b p t = refl
 
 -- tokens that have no other kind today
 pub image-same : (old : Bool) (t : Track) (x : Token) → (x .kind ≡ 3 → ⊥) → (x .kind ≡ 5 → ⊥) → image old t x ≡ x

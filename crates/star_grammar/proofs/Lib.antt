@@ -9,9 +9,11 @@ pub mod Accepts
 pub mod Alive
 pub mod StepRest
 pub mod Passing
+pub mod Sixteen
 pub mod Walking
 pub mod Formed
 pub mod Limits
+pub mod OtherRules
 pub mod Linked
 pub mod Linking
 pub mod Longest

@@ -90,7 +90,8 @@ header-marked rules w first before n s Sort.frame r b h = tt
 header-marked rules w first before n s Sort.frameEnd r b h = tt
 header-marked rules w first before n s Sort.loop r b h =
     taken-cond _ (ltb 0 n && eqb s 0) _ _ (λ e. taken-cond _ (ltb (suc (length before)) (rules .levels)) _ _ (λ d. refl) (λ d. tt)) (λ e. tt)
-header-marked rules w first before n s Sort.stop r b h = taken-cond _ (rules .headerStops && (ltb 0 n && ltb s (length before))) _ _ (λ e. h) (λ e. tt)
+header-marked rules w first before n s Sort.stop r b h =
+    taken-cond _ (ltb 0 n && ltb s (length before)) _ _ (λ e. taken-cond _ (rules .headerStops) _ _ (λ d. h) (λ d. tt)) (λ e. tt)
 header-marked rules w first before n s Sort.name r b h = taken-cond _ (eqb s 0) _ _ (λ e. refl) (λ e. tt)
 header-marked rules w first before n s Sort.value r b h =
     taken-cond _ (ltb 0 n) _ _ (λ e. begin-marked w first (reverseAux before (n ∷ [])) r) (λ e. tt)

@@ -60,7 +60,8 @@ header-passes rules w first before n s Sort.frame r = tt
 header-passes rules w first before n s Sort.frameEnd r = tt
 header-passes rules w first before n s Sort.loop r =
     passes-cond (r .tokens) (ltb 0 n && eqb s 0) _ _ (passes-cond (r .tokens) (ltb (suc (length before)) (rules .levels)) _ _ refl tt) tt
-header-passes rules w first before n s Sort.stop r = passes-cond (r .tokens) (rules .headerStops && (ltb 0 n && ltb s (length before))) _ _ refl tt
+header-passes rules w first before n s Sort.stop r =
+    passes-cond (r .tokens) (ltb 0 n && ltb s (length before)) _ _ (passes-cond (r .tokens) (rules .headerStops) _ _ refl tt) tt
 header-passes rules w first before n s Sort.name r = passes-cond (r .tokens) (eqb s 0) _ _ refl tt
 header-passes rules w first before n s Sort.value r =
     passes-cond (r .tokens) (ltb 0 n) _ _ (begin-passes w first (reverseAux before (n ∷ [])) r) tt
@@ -113,7 +114,7 @@ named-passes w Sort.stop r = tt
 named-passes w Sort.name r = tt
 named-passes w Sort.value r = refl
 
-step-passes : (rules : Rules) (st : State) (k : Sort) (r : Rows) → Passes (r .tokens) (step rules st k r)
+pub step-passes : (rules : Rules) (st : State) (k : Sort) (r : Rows) → Passes (r .tokens) (step rules st k r)
 unfolding step
 step-passes rules start k r = start-passes k r
 step-passes rules (within w) k r = between-passes w k r

@@ -1,5 +1,5 @@
--- Which number a refused step at a sort gives: 11 at a `loop_` that more levels would allow; 10 in a packet that lacks values or while an
--- inner level is open; 8 elsewhere. By cases on states and sorts.
+-- Which number a refused step at a sort gives: 16 at a `stop_` that rules with header stops would allow; 11 at a `loop_` that more levels would allow; 10 in a packet that
+-- lacks values or while an inner level is open; 8 elsewhere. By cases on states and sorts.
 use mathlib.Core.Path.{_≡_, refl}
 use mathlib.Core.Bool.{Bool, true, false, cond, _&&_}
 use mathlib.Core.List.{List, [], _∷_, reverseAux}
@@ -8,7 +8,7 @@ use native.Mathlib.Omega.{arith}
 use lib.Dec.{eqb, ltb}
 use lib.ListN.{length, length-reverseAux}
 use borrow.Author.Tests.{ltb-false, lt-ltb}
-use Rattle.star_lex.specs.Rules.{Rules, atLevels}
+use Rattle.star_lex.specs.Rules.{Rules, atLevels, atStops}
 use Rattle.star_grammar.specs.Tables.{Rows, pass}
 use Rattle.star_grammar.specs.Machine.{Sort, Where, inBlock, inFrame, Level, State, start, within, named, header, body, Step, go, refuse, between, fill, valueAt, begin, headerStep, noValue, noValueAt, bodyStep, startStep, namedStep, step, Run, bad, good, endBetween, endBody, endRun}
 
@@ -24,9 +24,11 @@ InPacket (body w (o ∷ outer) l inner zero) = Unit {0}
 
 -- why a step refuses
 pub data Refusal (rules : Rules) (st : State) (k : Sort) (r : Rows) : ℕ → Type 0 where
-  deep : (more : ℕ) → rules .levels ≤ more → (s : State) (u : Rows) → step (atLevels rules more) st k r ≡ go s u → Refusal rules st k r 11
-  packet : InPacket st → ((l : ℕ) → step (atLevels rules l) st k r ≡ refuse 10) → Refusal rules st k r 10
-  other : (InPacket st → ⊥) → ((l : ℕ) → step (atLevels rules l) st k r ≡ refuse 8) → Refusal rules st k r 8
+  retired : (s : State) (u : Rows) → step (atStops rules true) st k r ≡ go s u → Refusal rules st k r 16
+  deep : step (atStops rules true) st k r ≡ refuse 11 → (more : ℕ) → rules .levels ≤ more → (s : State) (u : Rows) → step (atLevels rules more) st k r ≡ go s u
+      → Refusal rules st k r 11
+  packet : InPacket st → ((l : ℕ) → step (atLevels (atStops rules true) l) st k r ≡ refuse 10) → Refusal rules st k r 10
+  other : (InPacket st → ⊥) → ((l : ℕ) → step (atLevels (atStops rules true) l) st k r ≡ refuse 8) → Refusal rules st k r 8
 
 -- a property of the number of a step, if it is refused
 abbrev Refused : (ℕ → Type 0) → Step → Type 0
@@ -48,7 +50,8 @@ begin-refused P w first [] r h = absurd (omega arith)
 begin-refused P w first (m ∷ inner) r h = value-refused P w [] _ inner 0 r
 
 module _ (rules : Rules) where
-  between-refusal : (st : State) → (InPacket st → ⊥) → (w : Where) (k : Sort) (r : Rows) → ((l : ℕ) → step (atLevels rules l) st k r ≡ between w k r)
+  between-refusal : (st : State) → (InPacket st → ⊥) → (w : Where) (k : Sort) (r : Rows)
+      → ((l : ℕ) → step (atLevels (atStops rules true) l) st k r ≡ between w k r)
       → Refused (Refusal rules st k r) (between w k r)
   unfolding between
   between-refusal st h (inBlock s) Sort.block r e = tt
@@ -78,11 +81,13 @@ module _ (rules : Rules) where
   header-refusal w first before n s Sort.loop r =
       refused-cond _ (ltb 0 n && eqb s 0) _ _
       (λ e. refused-cond _ (ltb (suc (length before)) (rules .levels)) _ _ (λ d. tt)
-      (λ d. Refusal.deep (suc (suc (length before))) (omega (arith, ltb-false (suc (length before)) (rules .levels) d)) (header w first (n ∷ before) 0 0) (pass r)
+      (λ d. Refusal.deep (rw (e, d)) (suc (suc (length before))) (omega (arith, ltb-false (suc (length before)) (rules .levels) d)) (header w first (n ∷ before) 0 0) (pass r)
       (rw (e, lt-ltb (suc (length before)) (suc (suc (length before))) (omega arith)))))
       (λ e. Refusal.other (λ x. x) (λ l. rw e))
   header-refusal w first before n s Sort.stop r =
-      refused-cond _ (rules .headerStops && (ltb 0 n && ltb s (length before))) _ _ (λ e. tt) (λ e. Refusal.other (λ x. x) (λ l. rw e))
+      refused-cond _ (ltb 0 n && ltb s (length before)) _ _
+      (λ e. refused-cond _ (rules .headerStops) _ _ (λ d. tt) (λ d. Refusal.retired (header w first before n (suc s)) (pass r) (rw e)))
+      (λ e. Refusal.other (λ x. x) (λ l. rw e))
   header-refusal w first before n s Sort.name r = refused-cond _ (eqb s 0) _ _ (λ e. tt) (λ e. Refusal.other (λ x. x) (λ l. rw e))
   header-refusal w first before n s Sort.value r =
       refused-cond _ (ltb 0 n) _ _

@@ -95,16 +95,17 @@ module _ (rules : Rules) (least : 1 ≤ rules .levels) where
       (λ e′. tt))
       (λ e. tt)
   header-sane w first before n s Sort.stop r h =
-      taken-cond (Sane rules) (rules .headerStops && (ltb 0 n && ltb s (length before))) _ _
-      (λ e. let d : ltb 0 n && ltb s (length before) ≡ true = both-right (rules .headerStops) _ e in
-      record {
+      taken-cond (Sane rules) (ltb 0 n && ltb s (length before)) _ _
+      (λ d. taken-cond (Sane rules) (rules .headerStops) (go (header w first before n (suc s)) (pass r)) _
+      (λ e. record {
         some-names = h .some-names;
         levels = h .levels;
         stops-fit = ltb-true s (length before) (both-right (ltb 0 n) (ltb s (length before)) d);
-        stops-allowed = λ x. both-left (rules .headerStops) _ e;
+        stops-allowed = λ x. e;
         stopped = λ x. ltb-true 0 n (both-left (ltb 0 n) (ltb s (length before)) d);
       })
-      (λ e. tt)
+      (λ e. tt))
+      (λ d. tt)
   header-sane w first before n s Sort.name r h =
       taken-cond (Sane rules) (eqb s 0) _ _
       (λ e. record { some-names = h .some-names; levels = h .levels; stops-fit = omega arith; stops-allowed = λ x. absurd (omega (arith, x)); stopped = omega arith })

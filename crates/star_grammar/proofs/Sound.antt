@@ -382,8 +382,9 @@ module _ (rules : Rules) (t : Token) (ts : List Token) (fixed : Fixed t) where
       (λ q′. tt))
       (λ q. tt)
   header-back w first before n s Sort.stop r h e =
-      taken-cond (λ u. Rest rules u ts → Heading rules w before n s (t ∷ ts)) (rules .headerStops && (ltb 0 n && ltb s (length before))) _ _
-      (λ q g. rw (stop-token-is t fixed e) (heading-stop rules w before n s ts (both-left (rules .headerStops) _ q) g))
+      let P : State → Type 0 = λ u. Rest rules u ts → Heading rules w before n s (t ∷ ts) in
+      taken-cond P (ltb 0 n && ltb s (length before)) _ _
+      (λ q. taken-cond P (rules .headerStops) _ _ (λ q′ g. rw (stop-token-is t fixed e) (heading-stop rules w before n s ts q′ g)) (λ q′. tt))
       (λ q. tt)
   header-back w first before n s Sort.name r h e =
       taken-cond (λ u. Rest rules u ts → Heading rules w before n s (t ∷ ts)) (eqb s 0) _ _

@@ -104,7 +104,8 @@ module _ (rules : Rules) where
       (λ d. rw (header-length before n, d) (ap (λ c. track (isFrame w) 1 c 0 0) (append-after before (n ∷ []) (0 ∷ [])))) (λ d. tt))
       (λ e. tt)
   header-tracked w first before n s Sort.stop r =
-      taken-cond (Follows (header w first before n s) Sort.stop) (rules .headerStops && (ltb 0 n && ltb s (length before))) _ _ (λ e. refl) (λ e. tt)
+      taken-cond (Follows (header w first before n s) Sort.stop) (ltb 0 n && ltb s (length before)) _ _
+      (λ e. taken-cond (Follows (header w first before n s) Sort.stop) (rules .headerStops) (go (header w first before n (suc s)) (pass r)) _ (λ d. refl) (λ d. tt)) (λ e. tt)
   header-tracked w first before n s Sort.name r =
       taken-cond (Follows (header w first before n s) Sort.name) (eqb s 0) _ _ (λ e. ap (λ c. track (isFrame w) 1 c 0 0) (header-more before n)) (λ e. tt)
   header-tracked w first before n s Sort.value r =
@@ -215,7 +216,8 @@ module _ (rules : Rules) where
   stop-taken (within (inFrame b s)) r = tt
   stop-taken (named w) r = tt
   stop-taken (header w first before n s) r =
-      taken-cond (λ _. false ≡ false) (rules .headerStops && (ltb 0 n && ltb s (length before))) _ _ (λ e. refl) (λ e. tt)
+      taken-cond (λ _. false ≡ false) (ltb 0 n && ltb s (length before)) _ _
+      (λ e. taken-cond (λ _. false ≡ false) (rules .headerStops) (go (header w first before n (suc s)) (pass r)) _ (λ d. refl) (λ d. tt)) (λ e. tt)
   stop-taken (body w outer l inner (suc f)) r = tt
   stop-taken (body (inBlock s) [] l inner zero) r = tt
   stop-taken (body (inFrame b s) [] l inner zero) r = tt

@@ -103,7 +103,7 @@ headerStep rules w first before n s loop r =
     (cond (ltb (suc (length before)) (rules .levels)) (go (header w first (n ∷ before) 0 0) (pass r)) (refuse 11))
     (refuse 8)
 headerStep rules w first before n s stop r =
-    cond (rules .headerStops && (ltb 0 n && ltb s (length before))) (go (header w first before n (suc s)) (pass r)) (refuse 8)
+    cond (ltb 0 n && ltb s (length before)) (cond (rules .headerStops) (go (header w first before n (suc s)) (pass r)) (refuse 16)) (refuse 8)
 headerStep rules w first before n s name r =
     cond (eqb s 0) (go (header w first before (suc n) 0) (putName (setOf w) (r .loops) (suc (length before)) r)) (refuse 8)
 headerStep rules w first before n s value r = cond (ltb 0 n) (begin w first (reverseAux before (n ∷ [])) r) (refuse 8)

@@ -4,7 +4,7 @@
 --   block  ::= ( data_CODE | global_ ) ( item | loop | frame )*
 --   frame  ::= save_CODE ( item | loop )* save_          in the 1991 layout `stop_` in place of the last `save_`
 --   item   ::= NAME value
---   loop   ::= header packet+          header ::= loop_ NAME+ ( header | stop_* )
+--   loop   ::= header packet+          header ::= loop_ NAME+ [ header ]     in old files ( header | stop_* ) in place of the brackets
 --   packet ::= value+ [ packet* stop_ ]     one value for each name of its level; in brackets, the packets of the deeper level if there is one
 use mathlib.Core.Path.{_≡_}
 use mathlib.Core.Bool.{Bool, true, cond}

@@ -18,7 +18,7 @@ use Rattle.star_grammar.specs.Tables.{NameRow, Rows, nameWords}
 use Rattle.star_grammar.specs.Reading.{FileDistinct}
 use Rattle.star_grammar.proofs.Widths.{name-wide}
 use Rattle.star_grammar.proofs.RowsOf.{IsToken}
-use Rattle.star_read.specs.Read.{Sizes, readIn}
+use Rattle.star_read.specs.Read.{Sizes, readIn, in-layout}
 use Rattle.star_read.proofs.InLayout.{in-today}
 use Rattle.star_find.specs.Find.{Lent, contentAt, isWanted, look, ownName, refused, rowThere, askOn, findName}
 use Rattle.star_find.specs.Demands.{contentOf}
@@ -68,7 +68,7 @@ module _ (file : List ℕ) (words : Sizes) (slots : List ℕ) (ps : List Placed)
   unfolding nameWords
   content-inside i h =
       rw (word-held 4 nameWords name-wide noName (rows .names) (words .names) i 1 h (omega arith))
-      (token-content 0 file words ps rows e (row i .name) (each-at (λ x. IsToken (length ps) (x .name)) (rows .names) i noName h (k .inside .name-tokens)))
+      (token-content (in-layout 0) file words ps rows e (row i .name) (each-at (λ x. IsToken (length ps) (x .name)) (rows .names) i noName h (k .inside .name-tokens)))
 
   of-set : (i : ℕ) → i < length (rows .names) → isOne (suc i) ≡ true → row i .set ≡ set
   unfolding isWanted nameWords
@@ -99,7 +99,7 @@ pub index-lookup : IndexLookup
 index-lookup file words slots ps rows e set name =
     let a = index-exactly file words slots .0 ps rows .0 e in
     let d : readIn 0 file words ≡ accepted (ps, rows) = in-today file words ∙ a .0 in
-    let r = reading-in 0 file words ps rows d .0 in
-    rw (lent-left 0 file words ps rows d, counts-counted 0 file words ps rows d)
+    let r = reading-in (in-layout 0) file words ps rows d .0 in
+    rw (lent-left (in-layout 0) file words ps rows d, counts-counted (in-layout 0) file words ps rows d)
     (lookup-same (left file words ps rows) (counted ps rows) slots set name
-    (λ s. slot-own file words slots ps rows d (r .tree) (rows-after 0 file words ps rows d r) s name (r .distinct) (a .1)))
+    (λ s. slot-own file words slots ps rows d (r .tree) (rows-after (in-layout 0) file words ps rows d r) s name (r .distinct) (a .1)))

@@ -17,7 +17,7 @@ use Rattle.star_lex.proofs.Held.{count-small}
 use Rattle.star_grammar.specs.Tables.{NameRow, Rows, nameWords}
 use Rattle.star_grammar.proofs.Widths.{name-wide}
 use Rattle.star_grammar.proofs.RowsOf.{IsToken}
-use Rattle.star_read.specs.Read.{FileRows, ReadOutcome, Sizes, readIn, readOf}
+use Rattle.star_read.specs.Read.{FileRows, ReadOutcome, Sizes, readIn, in-layout, readOf}
 use Rattle.star_read.specs.Answer.{readAnswer, Tables, tablesOf, Leaves}
 use Rattle.star_read.specs.declared.Answer.{Answer}
 use Rattle.star_read.proofs.InLayout.{in-today}
@@ -42,8 +42,8 @@ module _ (file : List ℕ) (words : Sizes) (ps : List Placed) (rows : Rows) (e :
 
   name-token : (i : ℕ) → i < length (rows .names) → IsToken (length ps) (row i .name)
   name-token i h =
-      let r = reading-in 0 file words ps rows in-0 .0 in
-      let k : RowsAfter ps rows (r .tree) = rows-after 0 file words ps rows in-0 r in
+      let r = reading-in (in-layout 0) file words ps rows in-0 .0 in
+      let k : RowsAfter ps rows (r .tree) = rows-after (in-layout 0) file words ps rows in-0 r in
       each-at (λ x. IsToken (length ps) (x .name)) (rows .names) i noName h (k .inside .name-tokens)
 
   -- a home by the tables is the row's
@@ -53,7 +53,7 @@ module _ (file : List ℕ) (words : Sizes) (ps : List Placed) (rows : Rows) (e :
       rw (
         word-held 4 nameWords name-wide noName (rows .names) (words .names) i 0 h (omega arith),
         word-held 4 nameWords name-wide noName (rows .names) (words .names) i 1 h (omega arith),
-        token-content 0 file words ps rows in-0 (row i .name) (name-token i h),
+        token-content (in-layout 0) file words ps rows in-0 (row i .name) (name-token i h),
       )
       (sym (row-home ps rows slots i))
 

@@ -7,7 +7,7 @@ use lib.ListN.{length}
 use Rattle.star_text.specs.Outcome.{refused, accepted}
 use Rattle.star_lex.specs.Tokens.{Placed}
 use Rattle.star_grammar.specs.Tables.{Rows}
-use Rattle.star_read.specs.Read.{Sizes, readOf}
+use Rattle.star_read.specs.Read.{Sizes, in-layout, readOf}
 use Rattle.star_find.specs.Find.{findName}
 use Rattle.star_find.specs.Demands.{lentAfter, countsAfter}
 use Rattle.star_slots.specs.Lookup.{findSlot}
@@ -29,4 +29,4 @@ IndexExactly = (file : List ℕ) (words : Sizes) (slots : List ℕ)
 abbrev pub IndexLookup : Type 0
 IndexLookup = (file : List ℕ) (words : Sizes) (slots : List ℕ) (ps : List Placed) (rows : Rows) → checkOf file words slots ≡ accepted (ps, rows)
     → (set : ℕ) (name : List ℕ)
-    → findSlot (lentAfter 0 file words) (countsAfter 0 file words) slots set name ≡ findName (lentAfter 0 file words) (countsAfter 0 file words) set name
+    → findSlot (lentAfter (in-layout 0) file words) (countsAfter (in-layout 0) file words) slots set name ≡ findName (lentAfter (in-layout 0) file words) (countsAfter (in-layout 0) file words) set name

@@ -11,13 +11,13 @@ pub record Rules : Type 0 where
   pub longest : ℕ
   -- loops have at most so many levels: 4.13
   pub levels : ℕ
-  -- `stop_` may stand after the names of a loop's header: 4.7
+  -- `stop_` may stand after the names of a loop's header, as in old files: 4.7
   pub headerStops : Bool
   -- a frame is closed by `stop_`, as in the 1991 layout, and not by `save_`: 4.3
   pub stopCloses : Bool
 
 abbrev pub today : Rules
-today = record { pairs = true; longest = 75; levels = 8; headerStops = true; stopCloses = false }
+today = record { pairs = true; longest = 75; levels = 8; headerStops = false; stopCloses = false }
 
 -- today's rules, with frames as in the 1991 layout
 abbrev pub rules1991 : Rules
@@ -30,6 +30,14 @@ layoutRules layout = cond (eqb layout 1) rules1991 today
 -- the same rules, with names and codes of at most so many bytes
 abbrev pub atLongest : Rules → ℕ → Rules
 atLongest rules n = record { pairs = rules .pairs; longest = n; levels = rules .levels; headerStops = rules .headerStops; stopCloses = rules .stopCloses }
+
+-- the same rules, with header stops or without
+abbrev pub atStops : Rules → Bool → Rules
+atStops rules b = record { pairs = rules .pairs; longest = rules .longest; levels = rules .levels; headerStops = b; stopCloses = rules .stopCloses }
+
+-- today's rules for old files, whose loops may have header stops
+abbrev pub oldHeaders : Rules
+oldHeaders = atStops today true
 
 -- the rules of a bench that has the earlier limit
 abbrev pub oldBench : Rules

@@ -51,11 +51,12 @@ unfolding refusedWord
 refused-fits n place h k = rw (refused-line, length-append, length-append) (omega (arith, number-fits n 32 h, number-fits place 10 k))
 
 -- the numbers of a refusal are low
-numbered-low : {size n place : ℕ} → Numbered size n place → (n ≤ 11) × (place ≤ size + 5)
+numbered-low : {size n place : ℕ} → Numbered size n place → (n ≤ 16) × (place ≤ size + 5)
 numbered-low Numbered.over-size = (omega arith, omega arith)
 numbered-low (Numbered.byte n place a b c) = (omega arith, omega arith)
 numbered-low (Numbered.table place a b) = (omega arith, omega arith)
 numbered-low (Numbered.token n place a b c) = (omega arith, omega arith)
+numbered-low (Numbered.retired place a) = (omega arith, omega arith)
 numbered-low (Numbered.end n (inl e)) = (omega arith, omega arith)
 numbered-low (Numbered.end n (inr e)) = (omega arith, omega arith)
 
@@ -65,7 +66,7 @@ text-fits input h = go (readOf input (ofWords 16384)) refl
   where
     go : (o : ReadOutcome) → readOf input (ofWords 16384) ≡ o → length (textOf o) ≤ 8217
     go (refused n place) e =
-        let low : (n ≤ 11) × (place ≤ length input + 5) = numbered-low (refused-numbered input (ofWords 16384) n place e) in
+        let low : (n ≤ 16) × (place ≤ length input + 5) = numbered-low (refused-numbered input (ofWords 16384) n place e) in
         omega (arith, refused-fits n place (omega arith) (omega arith))
     go (accepted (ps, rows)) e =
         let (tokens, reading, rooms) = accepted-room input (ofWords 16384) ps rows e in

@@ -13,8 +13,8 @@ use Rattle.star_number.specs.Demands.{NumbersInOrder, NumberAnswer, give
 
 pub numbers-in-order : NumbersInOrder
 unfolding valueNumber valueNumberOf
-numbers-in-order layout file words ps rows e name l h =
-    let v = values-in-order layout file words ps rows e name l h in (
+numbers-in-order way file words ps rows e name l h =
+    let v = values-in-order way file words ps rows e name l h in (
       λ before row behind q. rw (v .0 before row behind q .0, v .0 before row behind q .1),
       λ k o. rw (v .1 k o .0),
     )

@@ -13,7 +13,7 @@ use lib.ListN.{length}
 use Rattle.star_text.specs.Outcome.{accepted}
 use Rattle.star_lex.specs.Tokens.{Placed}
 use Rattle.star_grammar.specs.Tables.{Rows, ValueRow}
-use Rattle.star_read.specs.Read.{Sizes, readIn}
+use Rattle.star_read.specs.Read.{Sizes, Way, readVia}
 use Rattle.star_find.specs.Find.{Lent}
 use Rattle.star_find.specs.Demands.{lentAfter, countsAfter, contentOf}
 use Rattle.star_value.specs.Demands.{ofName, tokenKind}
@@ -77,14 +77,14 @@ NumbersKnown =
     (numberIn 7 (56 ∷ 46 ∷ 53 ∷ 51 ∷ 40 ∷ 49 ∷ 41 ∷ []) ≡ Uncertain (div binary64 (exact 853) (exact 100)) (div binary64 (exact 1) (exact 100)))
     × (numberIn 7 (45 ∷ 48 ∷ []) ≡ Float (fin true 0 (pos 0)))
 
--- after reading, in either layout: the numbers of a name row, k = 1, 2, .., are those of its values in file order; past the last there is none
+-- after reading, in either layout or as an old file: the numbers of a name row, k = 1, 2, .., are those of its values in file order; past the last there is none
 abbrev pub NumbersInOrder : Type 0
-NumbersInOrder = (layout : ℕ) (file : List ℕ) (words : Sizes) (ps : List Placed) (rows : Rows) → readIn layout file words ≡ accepted (ps, rows)
+NumbersInOrder = (way : Way) (file : List ℕ) (words : Sizes) (ps : List Placed) (rows : Rows) → readVia way file words ≡ accepted (ps, rows)
     → (name : ℕ) → 1 ≤ name → name ≤ length (rows .names)
     → ((before : List ValueRow) (v : ValueRow) (behind : List ValueRow) → ofName name (rows .values) ≡ before ++ (v ∷ behind)
-    → valueNumber (lentAfter layout file words) (countsAfter layout file words) name (suc (length before)) ≡ Given (numberIn (tokenKind ps (v .value)) (contentOf ps (v .value))))
+    → valueNumber (lentAfter way file words) (countsAfter way file words) name (suc (length before)) ≡ Given (numberIn (tokenKind ps (v .value)) (contentOf ps (v .value))))
     × ((k : ℕ) → (k ≡ 0) ⊎ (length (ofName name (rows .values)) < k)
-    → valueNumber (lentAfter layout file words) (countsAfter layout file words) name k ≡ Refused 13)
+    → valueNumber (lentAfter way file words) (countsAfter way file words) name k ≡ Refused 13)
 
 -- demand 1, of any file, tables, counts and numbers: a number with its form; or 13 or 14, and then form 0 and both floats are 0
 pub data NumberAnswer : ValueNumber → ValueForm → Type 0 where

@@ -1,6 +1,6 @@
 -- Runs read kinds alone: the tokens of a table run as those of the file whose rows it holds.
 use mathlib.Core.Path.{_≡_, refl, sym, ap, _∙_}
-use mathlib.Core.Bool.{true, and-eq-true-iff}
+use mathlib.Core.Bool.{Bool, true, and-eq-true-iff}
 use mathlib.Core.List.{List, [], _∷_, _++_, map, flatMap}
 use Prim.Native.Nat.{ℕ, zero, suc, _*_, _≤_, _<_}
 use native.Mathlib.Omega.{arith}
@@ -9,7 +9,7 @@ use lib.Dec.{leb}
 use lib.ListN.{length, getD, drop}
 use lib.Seq.{getD-drop}
 use Rattle.star_text.specs.Bytes.{mostBytes}
-use Rattle.star_lex.specs.Rules.{Rules, today}
+use Rattle.star_lex.specs.Rules.{Rules, today, atStops}
 use Rattle.star_lex.specs.Tokens.{Token, Placed, tokenRow}
 use Rattle.star_rows.specs.Rows.{holding}
 use Rattle.star_grammar.specs.Tables.{Rows, noRows}
@@ -76,7 +76,7 @@ has-rows-fits count words e =
     let (a, b) = (and-eq-true-iff (leb (count * 3) words) (leb count mostBytes)) .0 e in
     (leb-true _ _ a, leb-true _ _ b)
 
-pub rows-run : (count : ℕ) (words : List ℕ) → count * 3 ≤ length words → count ≤ mostBytes
-    → rowsRun count words ≡ run today start (kindTokens count words) noRows
+pub rows-run : (stops : Bool) (count : ℕ) (words : List ℕ) → count * 3 ≤ length words → count ≤ mostBytes
+    → rowsRun stops count words ≡ run (atStops today stops) start (kindTokens count words) noRows
 unfolding rowsRun hasRows
-rows-run count words h k = rw (le-leb (count * 3) (length words) h, le-leb count mostBytes k)
+rows-run stops count words h k = rw (le-leb (count * 3) (length words) h, le-leb count mostBytes k)

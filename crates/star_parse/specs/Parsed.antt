@@ -7,7 +7,7 @@ use lib.Dec.{leb}
 use lib.ListN.{length, getD, drop}
 use Rattle.star_rows.specs.Widths.{tokenWidth, setWidth, nameWidth, packetWidth, valueWidth}
 use Rattle.star_text.specs.Bytes.{mostBytes}
-use Rattle.star_lex.specs.Rules.{today}
+use Rattle.star_lex.specs.Rules.{today, atStops}
 use Rattle.star_lex.specs.Tokens.{Token}
 use Rattle.star_rows.specs.Rows.{stored}
 use Rattle.star_grammar.specs.Tables.{Rows, noRows, setWords, nameWords, packetWords, valueWords}
@@ -23,9 +23,9 @@ kindTokens (suc n) words = record { kind = getD words 0 0; content = [] } ∷ ki
 unfoldable pub hasRows : (count words : ℕ) → Bool
 hasRows count words = leb (count * tokenWidth) words && leb count mostBytes
 
--- the run over the first rows of a table; 14 where it has not that many
-unfoldable pub rowsRun : (count : ℕ) → List ℕ → Run
-rowsRun count words = cond (hasRows count (length words)) (run today start (kindTokens count words) noRows) (bad 14 0)
+-- the run over the first rows of a table, with header stops or without; 14 where it has not that many
+unfoldable pub rowsRun : (stops : Bool) (count : ℕ) → List ℕ → Run
+rowsRun stops count words = cond (hasRows count (length words)) (run (atStops today stops) start (kindTokens count words) noRows) (bad 14 0)
 
 -- the words of tables 2 to 5
 pub record FourTables : Type 0 where

@@ -6,7 +6,7 @@ use Prim.Native.Nat.{ℕ, zero, suc, _+_, _-_, _*_, _≤_, _<_}
 use lib.Dec.{eqb, ltb}
 use lib.ListN.{length, getD, take, drop}
 use Rattle.star_text.specs.Bytes.{mostBytes}
-use Rattle.star_lex.specs.Rules.{today}
+use Rattle.star_lex.specs.Rules.{Rules, today}
 use Rattle.star_lex.specs.Tokens.{Token}
 use Rattle.star_rows.specs.Widths.{tokenWidth}
 use Rattle.star_rows.specs.Rows.{putRow}
@@ -134,31 +134,31 @@ pub record Matches (before : FourTables) (rows : Rows) (p : Progress) (t : FourT
   pub values : p .values ≡ length (rows .values)
   pub tables : Stored before (linked rows) t
 
--- a read of these tokens into these tables, with this outcome, has come to a state, and this holds of its rows: the run from here on has that outcome
-pub record AtWith (tokens : List Token) (before : FourTables) (outcome : Run) (st : State) (Holds : Rows → Type 0) (p : Progress) (t : FourTables) : Type 0 where
+-- a read of these tokens by the rules into these tables, with this outcome, has come to a state, and this holds of its rows: the run from here on has that outcome
+pub record AtWith (rules : Rules) (tokens : List Token) (before : FourTables) (outcome : Run) (st : State) (Holds : Rows → Type 0) (p : Progress) (t : FourTables) : Type 0 where
   pub rows : Rows
   pub matches : Matches before rows p t
-  pub left : run today st (drop (p .at) tokens) rows ≡ outcome
+  pub left : run rules st (drop (p .at) tokens) rows ≡ outcome
   pub holds : Holds rows
 
 -- it has come to a state, or the outcome is the refusal
-pub record ComesWith (tokens : List Token) (before : FourTables) (outcome : Run) (st : State) (Holds : Rows → Type 0) (p : Progress) (t : FourTables) : Type 0 where
-  pub goes : p .refusal ≡ 0 → AtWith tokens before outcome st Holds p t
+pub record ComesWith (rules : Rules) (tokens : List Token) (before : FourTables) (outcome : Run) (st : State) (Holds : Rows → Type 0) (p : Progress) (t : FourTables) : Type 0 where
+  pub goes : p .refusal ≡ 0 → AtWith rules tokens before outcome st Holds p t
   pub ends : (p .refusal ≡ 0 → ⊥) → outcome ≡ bad (p .refusal) (p .at)
 
 -- every read that is at one state comes to another, or is refused
-abbrev pub LeadsWith : (count : ℕ) (tokens : List ℕ) → (from : State) → (Rows → Type 0) → Progress → FourTables → (to : State) → (Rows → Type 0) → Progress → FourTables
+abbrev pub LeadsWith : (rules : Rules) (count : ℕ) (tokens : List ℕ) → (from : State) → (Rows → Type 0) → Progress → FourTables → (to : State) → (Rows → Type 0) → Progress → FourTables
     → Type 0
-LeadsWith count tokens from From p t to To r u =
-    (before : FourTables) (outcome : Run) → AtWith (kindTokens count tokens) before outcome from From p t
-    → ComesWith (kindTokens count tokens) before outcome to To r u
+LeadsWith rules count tokens from From p t to To r u =
+    (before : FourTables) (outcome : Run) → AtWith rules (kindTokens count tokens) before outcome from From p t
+    → ComesWith rules (kindTokens count tokens) before outcome to To r u
 
 -- every read that is at one state comes to another
-abbrev pub PassesWith : (count : ℕ) (tokens : List ℕ) → (from : State) → (Rows → Type 0) → Progress → FourTables → (to : State) → (Rows → Type 0) → Progress → FourTables
+abbrev pub PassesWith : (rules : Rules) (count : ℕ) (tokens : List ℕ) → (from : State) → (Rows → Type 0) → Progress → FourTables → (to : State) → (Rows → Type 0) → Progress → FourTables
     → Type 0
-PassesWith count tokens from From p t to To r u =
-    (before : FourTables) (outcome : Run) → AtWith (kindTokens count tokens) before outcome from From p t
-    → AtWith (kindTokens count tokens) before outcome to To r u
+PassesWith rules count tokens from From p t to To r u =
+    (before : FourTables) (outcome : Run) → AtWith rules (kindTokens count tokens) before outcome from From p t
+    → AtWith rules (kindTokens count tokens) before outcome to To r u
 
 -- no value row is of a name row from this one on
 abbrev pub Unvalued : (from : ℕ) → Rows → Type 0
@@ -168,14 +168,14 @@ Unvalued from rows = (name : ℕ) → from ≤ name → lastRow name (rows .valu
 abbrev pub Between : Rows → Type 0
 Between rows = Unvalued (next (rows .names)) rows
 
-abbrev pub At : List Token → (before : FourTables) → Run → State → Progress → FourTables → Type 0
-At tokens before outcome st p t = AtWith tokens before outcome st Between p t
+abbrev pub At : (rules : Rules) → List Token → (before : FourTables) → Run → State → Progress → FourTables → Type 0
+At rules tokens before outcome st p t = AtWith rules tokens before outcome st Between p t
 
-abbrev pub Comes : List Token → (before : FourTables) → Run → State → Progress → FourTables → Type 0
-Comes tokens before outcome st p t = ComesWith tokens before outcome st Between p t
+abbrev pub Comes : (rules : Rules) → List Token → (before : FourTables) → Run → State → Progress → FourTables → Type 0
+Comes rules tokens before outcome st p t = ComesWith rules tokens before outcome st Between p t
 
-abbrev pub Leads : (count : ℕ) (tokens : List ℕ) → (from : State) → Progress → FourTables → (to : State) → Progress → FourTables → Type 0
-Leads count tokens from p t to r u = LeadsWith count tokens from Between p t to Between r u
+abbrev pub Leads : (rules : Rules) (count : ℕ) (tokens : List ℕ) → (from : State) → Progress → FourTables → (to : State) → Progress → FourTables → Type 0
+Leads rules count tokens from p t to r u = LeadsWith rules count tokens from Between p t to Between r u
 
 -- what reading on answers: counts in bounds, at least so many tokens passed, and where reads come to
 pub record Onward (count : ℕ) (tokens : List ℕ) (least : ℕ) (r : Progress) (Goes : Type 0) : Type 0 where
@@ -203,12 +203,12 @@ pub record Names (count : ℕ) (tokens : List ℕ) (p r : Progress) (Goes : Type
   pub last : sortAt count tokens (r .at) ≡ 6 → ⊥
   pub goes : Goes
 
--- what reading header stops, at most so many, answers: no name row is put, and no `stop_` comes next, or there were as many
+-- what reading header stops, at most so many, answers: no name row is put, and no `stop_` comes next, or there were as many, unless one is refused
 pub record Stops (count : ℕ) (tokens : List ℕ) (inner : ℕ) (p r : Progress) (Goes : Type 0) : Type 0 where
-  pub ready : Ready count tokens r
+  pub bounds : Bounds count tokens r
   pub further : p .at ≤ r .at
   pub names : r .names ≡ p .names
-  pub last : sortAt count tokens (r .at) ≡ 5 → p .at + inner ≤ r .at
+  pub last : r .refusal ≡ 0 → sortAt count tokens (r .at) ≡ 5 → p .at + inner ≤ r .at
   pub goes : Goes
 
 -- a state of a loop: the current level is one of those that the rules allow, each level has a name, and the row numbers fit

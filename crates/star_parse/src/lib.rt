@@ -11,7 +11,7 @@ ghost use Prim.Native.Nat.{ℕ, _+_, _*_, _≤_};
 ghost use lib.ListN.{length};
 ghost use Rattle.star_rows.specs.Widths.{tokenWidth};
 ghost use Rattle.star_text.specs.Bytes.{mostBytes};
-ghost use Rattle.star_lex.specs.Rules.{today};
+ghost use Rattle.star_lex.specs.Rules.{Rules, today, atStops};
 ghost use Rattle.star_grammar.specs.Tables.{noRows};
 ghost use Rattle.star_grammar.specs.Machine.{Where, inBlock, setOf, start, within, run};
 ghost use Rattle.star_parse.specs.Parsed.{kindTokens, fourTables, hasRows, rowsRun, Refused, Answers};
@@ -42,8 +42,8 @@ fn read_item(
     requires { ⌜ Ready count (now tokens) p ⌝ }
     requires { ⌜ Ahead count (now tokens) (p .at) 6 ⌝ }
     ensures { λ r. ⌜ Onward count (now (tokens .entry)) (p .at + 1) r
-        ((w : Where) (sets packets : List ℕ) → setOf w ≡ set
-        → Leads count (now (tokens .entry)) (within w) p (fourTables sets (now (names .entry)) packets (now (values .entry)))
+        ((rules : Rules) (w : Where) (sets packets : List ℕ) → setOf w ≡ set
+        → Leads rules count (now (tokens .entry)) (within w) p (fourTables sets (now (names .entry)) packets (now (values .entry)))
         (within w) r (fourTables sets (now (names .exit)) packets (now (values .exit)))) ⌝ }
 {
     let p = progress::put_name(p, set, 0, 0, names);
@@ -64,11 +64,12 @@ fn read_entries(
     names: &mut [u32],
     packets: &mut [u32],
     values: &mut [u32],
+    stops: bool,
 ) -> Progress
     requires { ⌜ Ready count (now tokens) p ⌝ }
     ensures { λ r. ⌜ Onward count (now (tokens .entry)) (p .at) r
         ((w : Where) (sets : List ℕ) → setOf w ≡ set
-        → Leads count (now (tokens .entry)) (within w) p (fourTables sets (now (names .entry)) (now (packets .entry)) (now (values .entry)))
+        → Leads (atStops today stops) count (now (tokens .entry)) (within w) p (fourTables sets (now (names .entry)) (now (packets .entry)) (now (values .entry)))
         (within w) r (fourTables sets (now (names .exit)) (now (packets .exit)) (now (values .exit)))) ⌝ }
     ensures { λ r. ⌜ (r .refusal ≡ 0 → NoEntry count (now (tokens .entry)) (r .at)) ⌝ }
 {
@@ -78,7 +79,7 @@ fn read_entries(
         if sort == progress::NAME {
             p = read_item(tokens, count, set, p, names, values);
         } else if sort == progress::LOOP {
-            p = header::read_loop(tokens, count, set, p, names, packets, values);
+            p = header::read_loop(tokens, count, set, p, names, packets, values, stops);
         } else {
             return p;
         }
@@ -96,16 +97,17 @@ fn read_frame(
     names: &mut [u32],
     packets: &mut [u32],
     values: &mut [u32],
+    stops: bool,
 ) -> Progress
     requires { ⌜ Ready count (now tokens) p ⌝ }
     requires { ⌜ Ahead count (now tokens) (p .at) 2 ⌝ }
     ensures { λ r. ⌜ Onward count (now (tokens .entry)) (p .at + 1) r
-        (Leads count (now (tokens .entry))
+        (Leads (atStops today stops) count (now (tokens .entry))
         (within (inBlock block)) p (fourTables (now (sets .entry)) (now (names .entry)) (now (packets .entry)) (now (values .entry)))
         (within (inBlock block)) r (fourTables (now (sets .exit)) (now (names .exit)) (now (packets .exit)) (now (values .exit)))) ⌝ }
 {
     let p = progress::put_set(p, progress::SAVE_FRAME, block, sets);
-    let p = read_entries(tokens, count, p.sets, p, names, packets, values);
+    let p = read_entries(tokens, count, p.sets, p, names, packets, values, stops);
     if p.refusal != 0 {
         return p;
     }
@@ -127,25 +129,26 @@ fn read_block(
     names: &mut [u32],
     packets: &mut [u32],
     values: &mut [u32],
+    stops: bool,
 ) -> Progress
     requires { ⌜ Ready count (now tokens) p ⌝ }
     requires { ⌜ Headed count (now tokens) (p .at) kind ⌝ }
     ensures { λ r. ⌜ Onward count (now (tokens .entry)) (p .at + 1) r
-        (Leads count (now (tokens .entry))
+        (Leads (atStops today stops) count (now (tokens .entry))
         start p (fourTables (now (sets .entry)) (now (names .entry)) (now (packets .entry)) (now (values .entry)))
         start r (fourTables (now (sets .exit)) (now (names .exit)) (now (packets .exit)) (now (values .exit)))) ⌝ }
 {
     let mut p = progress::put_set(p, kind, 0, sets);
     let block = p.sets;
     while p.refusal == 0 {
-        p = read_entries(tokens, count, block, p, names, packets, values);
+        p = read_entries(tokens, count, block, p, names, packets, values, stops);
         if p.refusal != 0 {
             return p;
         }
         if progress::sort_at(tokens, count, p.at) != progress::FRAME {
             return p;
         }
-        p = read_frame(tokens, count, block, p, sets, names, packets, values);
+        p = read_frame(tokens, count, block, p, sets, names, packets, values, stops);
     }
     p
 }
@@ -158,10 +161,11 @@ fn read_blocks(
     names: &mut [u32],
     packets: &mut [u32],
     values: &mut [u32],
+    stops: bool,
 ) -> Progress
     requires { ⌜ count * tokenWidth ≤ length (now tokens) ⌝ }
     requires { ⌜ count ≤ mostBytes ⌝ }
-    ensures { λ r. ⌜ Whole count (run today start (kindTokens count (now (tokens .entry))) noRows)
+    ensures { λ r. ⌜ Whole count (run (atStops today stops) start (kindTokens count (now (tokens .entry))) noRows)
         (fourTables (now (sets .entry)) (now (names .entry)) (now (packets .entry)) (now (values .entry))) r
         (fourTables (now (sets .exit)) (now (names .exit)) (now (packets .exit)) (now (values .exit))) ⌝ }
 {
@@ -175,7 +179,7 @@ fn read_blocks(
         if kind == 0 {
             return progress::misplaced(p, progress::OUT_OF_PLACE);
         }
-        p = read_block(tokens, count, kind, p, sets, names, packets, values);
+        p = read_block(tokens, count, kind, p, sets, names, packets, values, stops);
     }
     p
 }
@@ -204,7 +208,7 @@ fn refused(refusal: u32, tokens: usize) -> Parsed
     }
 }
 
-// Reads the rows of the tables from the kinds of the first tokens of table 1. Refusal 14, with nothing stored, where the table has not that many, or
+// Reads the rows of the tables from the kinds of the first tokens of table 1, with header stops or without. Refusal 14, with nothing stored, where the table has not that many, or
 // where they are more than a file can have.
 pub fn read_rows(
     tokens: &[u32],
@@ -213,8 +217,9 @@ pub fn read_rows(
     names: &mut [u32],
     packets: &mut [u32],
     values: &mut [u32],
+    stops: bool,
 ) -> Parsed
-    ensures { λ r. ⌜ Answers count (rowsRun count (now (tokens .entry)))
+    ensures { λ r. ⌜ Answers count (rowsRun stops count (now (tokens .entry)))
         (fourTables (now (sets .entry)) (now (names .entry)) (now (packets .entry)) (now (values .entry))) r
         (fourTables (now (sets .exit)) (now (names .exit)) (now (packets .exit)) (now (values .exit))) ⌝ }
     ensures { λ _. ⌜ (hasRows count (length (now (tokens .entry))) ≡ false
@@ -224,7 +229,7 @@ pub fn read_rows(
     if !has_rows(count, tokens.len()) {
         return refused(14, 0);
     }
-    let p = read_blocks(tokens, count, sets, names, packets, values);
+    let p = read_blocks(tokens, count, sets, names, packets, values, stops);
     if p.refusal != 0 {
         return refused(p.refusal, p.at as usize);
     }

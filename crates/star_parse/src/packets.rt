@@ -5,6 +5,7 @@ ghost use mathlib.Core.Path.{_≡_};
 ghost use mathlib.Core.List.{List, _∷_};
 ghost use Prim.Native.Nat.{ℕ, _+_, _-_, _≤_, _<_};
 ghost use lib.ListN.{length, getD};
+ghost use Rattle.star_lex.specs.Rules.{Rules};
 ghost use Rattle.star_grammar.specs.Machine.{Where, Level, body, filled};
 ghost use Rattle.star_parse.specs.Parsed.{FourTables, fourTables};
 ghost use Rattle.star_parse.specs.Reader.{sortAt, Ahead, Ready, Onward, LeadsWith, InLoop, Around, nameAt, backTo, Columns, Filling, innerOf, levelOf, deeperOf, atLevel, partly};
@@ -72,9 +73,9 @@ fn read_values(
     requires { ⌜ s .filled ≤ getD (s .counts) (s .level) 0 ⌝ }
     requires { ⌜ back ≤ p .values ⌝ }
     ensures { λ r. ⌜ Onward count (now (tokens .entry)) (p .at) r
-        ((w : Where) (outer : List Level) (base : ℕ) (began sets names packets : List ℕ) → s .first ≡ nameAt base (s .counts) (s .level)
+        ((rules : Rules) (w : Where) (outer : List Level) (base : ℕ) (began sets names packets : List ℕ) → s .first ≡ nameAt base (s .counts) (s .level)
         → back ≡ backTo (getD began (s .level) 0) (p .values - s .filled)
-        → LeadsWith count (now (tokens .entry))
+        → LeadsWith rules count (now (tokens .entry))
         (partly w outer (levelOf s packet) (innerOf s) (s .filled)) (Filling base (s .counts) (s .levels) (s .level) (s .filled) began) p
         (fourTables sets names packets (now (values .entry)))
         (filled w outer (levelOf s packet) (innerOf s)) (Filling base (s .counts) (s .levels) (s .level) (getD (s .counts) (s .level) 0) began) r
@@ -113,8 +114,8 @@ fn read_own(
     requires { ⌜ s .filled ≡ 0 ⌝ }
     requires { ⌜ length (now began) ≡ 8 ⌝ }
     ensures { λ r. ⌜ Onward count (now (tokens .entry)) (p .at + 1) r
-        ((w : Where) (outer : List Level) (base : ℕ) (sets names : List ℕ) → Around s outer base
-        → LeadsWith count (now (tokens .entry)) (atLevel w outer s) (Columns base (s .counts) (s .levels) (now (began .entry))) p
+        ((rules : Rules) (w : Where) (outer : List Level) (base : ℕ) (sets names : List ℕ) → Around s outer base
+        → LeadsWith rules count (now (tokens .entry)) (atLevel w outer s) (Columns base (s .counts) (s .levels) (now (began .entry))) p
         (fourTables sets names (now (packets .entry)) (now (values .entry)))
         (filled w outer (levelOf s (p .packets + 1)) (innerOf s)) (Columns base (s .counts) (s .levels) (now (began .exit))) r
         (fourTables sets names (now (packets .exit)) (now (values .exit)))) ⌝ }
@@ -135,8 +136,8 @@ fn read_stop(tokens: &[u32], count: usize, p: Progress) -> Progress
     requires { ⌜ Ready count (now tokens) p ⌝ }
     requires { ⌜ (sortAt count (now tokens) (p .at) ≡ 7 → ⊥) ⌝ }
     ensures { λ r. ⌜ Onward count (now (tokens .entry)) (p .at) r
-        ((w : Where) (around l : Level) (outer : List Level) (inner : List ℕ) (t : FourTables) (base : ℕ) (counts : List ℕ) (levels : ℕ) (began : List ℕ)
-        → LeadsWith count (now (tokens .entry)) (body w (around ∷ outer) l inner 0) (Columns base counts levels began) p t
+        ((rules : Rules) (w : Where) (around l : Level) (outer : List Level) (inner : List ℕ) (t : FourTables) (base : ℕ) (counts : List ℕ) (levels : ℕ) (began : List ℕ)
+        → LeadsWith rules count (now (tokens .entry)) (body w (around ∷ outer) l inner 0) (Columns base counts levels began) p t
         (body w outer around (l .names ∷ inner) 0) (Columns base counts levels began) r t) ⌝ }
 {
     let sort = progress::sort_at(tokens, count, p.at);
@@ -163,8 +164,8 @@ fn read_packet(
     requires { ⌜ s .filled ≡ 0 ⌝ }
     requires { ⌜ length (now began) ≡ 8 ⌝ }
     ensures { λ r. ⌜ Onward count (now (tokens .entry)) (p .at + 1) r
-        ((w : Where) (outer : List Level) (base : ℕ) (sets names : List ℕ) → Around s outer base
-        → LeadsWith count (now (tokens .entry)) (atLevel w outer s) (Columns base (s .counts) (s .levels) (now (began .entry))) p
+        ((rules : Rules) (w : Where) (outer : List Level) (base : ℕ) (sets names : List ℕ) → Around s outer base
+        → LeadsWith rules count (now (tokens .entry)) (atLevel w outer s) (Columns base (s .counts) (s .levels) (now (began .entry))) p
         (fourTables sets names (now (packets .entry)) (now (values .entry)))
         (atLevel w outer s) (Columns base (s .counts) (s .levels) (now (began .exit))) r
         (fourTables sets names (now (packets .exit)) (now (values .exit)))) ⌝ }
@@ -217,8 +218,8 @@ pub(crate) fn read_level(
     requires { ⌜ s .filled ≡ 0 ⌝ }
     requires { ⌜ length (now began) ≡ 8 ⌝ }
     ensures { λ r. ⌜ Onward count (now (tokens .entry)) (p .at) r
-        ((w : Where) (outer : List Level) (base : ℕ) (sets names : List ℕ) → Around s outer base
-        → LeadsWith count (now (tokens .entry)) (atLevel w outer s) (Columns base (s .counts) (s .levels) (now (began .entry))) p
+        ((rules : Rules) (w : Where) (outer : List Level) (base : ℕ) (sets names : List ℕ) → Around s outer base
+        → LeadsWith rules count (now (tokens .entry)) (atLevel w outer s) (Columns base (s .counts) (s .levels) (now (began .entry))) p
         (fourTables sets names (now (packets .entry)) (now (values .entry)))
         (atLevel w outer s) (Columns base (s .counts) (s .levels) (now (began .exit))) r
         (fourTables sets names (now (packets .exit)) (now (values .exit)))) ⌝ }

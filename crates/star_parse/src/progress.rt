@@ -36,12 +36,14 @@ pub const SAVE_FRAME: u32 = 2;
 
 pub const GLOBAL_BLOCK: u32 = 3;
 
-// The numbers of refusal: out of place; no value in a packet that is not full, or no `stop_` in an open inner level; level 9.
+// The numbers of refusal: out of place; no value in a packet that is not full, or no `stop_` in an open inner level; level 9; a header stop where there are none.
 pub const OUT_OF_PLACE: u32 = 8;
 
 pub const INCOMPLETE: u32 = 10;
 
 pub const TOO_DEEP: u32 = 11;
+
+pub const RETIRED: u32 = 16;
 
 // The refusal, 0 while there is none; the tokens and loops passed; the rows so far.
 pub struct Progress {

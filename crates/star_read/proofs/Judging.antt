@@ -44,7 +44,8 @@ place-held file words count h n below =
     held-first file words count h n below ∙ sym (place-in (length file) (placed (tokensOf file)) n (omega (arith, h .count-is)))
 
 refusal-number : {rules : Rules} {st : State} {k : _} {r : Rows} {n : ℕ} → Refusal rules st k r n → n ≡ 0 → ⊥
-refusal-number (Refusal.deep more h s u e) z = omega arith
+refusal-number (Refusal.retired s u e) z = omega arith
+refusal-number (Refusal.deep d more h s u e) z = omega arith
 refusal-number (Refusal.packet i e) z = omega arith
 refusal-number (Refusal.other i e) z = omega arith
 

@@ -20,3 +20,4 @@ pub mod Windows
 pub mod Longest
 pub mod InLayout
 pub mod Places
+pub mod Sixteen

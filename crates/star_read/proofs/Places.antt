@@ -7,7 +7,7 @@ use native.Mathlib.Omega.{arith}
 use borrow.Author.Tests.{eqb-true, eqb-false}
 use lib.Dec.{eqb}
 use lib.ListN.{length, getD}
-use Rattle.star_lex.specs.Rules.{today, rules1991, layoutRules}
+use Rattle.star_lex.specs.Rules.{Rules, today, rules1991, atStops, layoutRules}
 use Rattle.star_lex.specs.Tokens.{Token, Placed, Each, opening}
 use Rattle.star_lex.specs.Split.{placed, tokensOf}
 use Rattle.star_lex.specs.Table.{firstByte}
@@ -26,7 +26,7 @@ use Rattle.star_grammar.proofs.Images.{today-at, row-length}
 use Rattle.star_grammar.proofs.Yields.{row-by}
 use Rattle.star_grammar.proofs.Walking.{good-walks}
 use Rattle.star_grammar.proofs.Formed.{each-fixed}
-use Rattle.star_grammar.proofs.Longest.{run-1991}
+use Rattle.star_grammar.proofs.Longest.{run-same}
 use Rattle.star_frames.specs.Frames.{kindOf, closedFrames, openedFrames, asToday, fromToday}
 use Rattle.star_frames.proofs.Retagging.{Retagged}
 use Rattle.star_frames.proofs.Closing.{closed-by, open-close}
@@ -70,7 +70,7 @@ old-none (t ∷ ts) = (by (eqb (t .kind) 3) refl, old-none ts)
     by true e = λ k. omega (arith, k)
     by false e = eqb-false (t .kind) 3 e
 
-module _ (file words : List ℕ) (count : ℕ) (h : Holds file words count) where
+module _ (stops : Bool) (file words : List ℕ) (count : ℕ) (h : Holds file words count) where
   abbrev ts : List Token
   ts = fileTokens file
 
@@ -84,14 +84,17 @@ module _ (file words : List ℕ) (count : ℕ) (h : Holds file words count) wher
   whole-places : Places file words count
   whole-places = record { small = h .small; count-is = h .count-is; firsts = place-held file words count h }
 
-  pub whole-run : rowsRun count words ≡ run today start (fileTokens file) noRows
+  pub whole-run : rowsRun stops count words ≡ run (atStops today stops) start (fileTokens file) noRows
   whole-run =
-      rows-run count words room (count-small file words count h)
-      ∙ ap (λ n. run today start (kindTokens n words) noRows) (h .count-is)
-      ∙ ap (λ t. run today start (kindTokens (length (placed (tokensOf file))) t) noRows) (h .rows)
-      ∙ run-holding today start (placed (tokensOf file)) (length words) noRows
+      rows-run stops count words room (count-small file words count h)
+      ∙ ap (λ n. run (atStops today stops) start (kindTokens n words) noRows) (h .count-is)
+      ∙ ap (λ t. run (atStops today stops) start (kindTokens (length (placed (tokensOf file))) t) noRows) (h .rows)
+      ∙ run-holding (atStops today stops) start (placed (tokensOf file)) (length words) noRows
 
   -- the 1991 layout
+  abbrev old : Rules
+  old = atStops rules1991 stops
+
   abbrev after : List ℕ
   after = closedFrames count words
 
@@ -109,28 +112,28 @@ module _ (file words : List ℕ) (count : ℕ) (h : Holds file words count) wher
   closed-places : Places file after count
   closed-places = record { small = h .small; count-is = h .count-is; firsts = λ m below. closed-first m below ∙ place-held file words count h m below }
 
-  closed-kinds : map (λ t. t .kind) (kindTokens count after) ≡ map (λ t. t .kind) (todayRow rules1991 ts)
+  closed-kinds : map (λ t. t .kind) (kindTokens count after) ≡ map (λ t. t .kind) (todayRow old ts)
   unfolding todayRow
   closed-kinds =
-      kinds-same (kindTokens count after) (todayRow rules1991 ts) (nowhere .token) (length-kinds count after ∙ sym counted ∙ sym (row-length rules1991 ts))
+      kinds-same (kindTokens count after) (todayRow old ts) (nowhere .token) (length-kinds count after ∙ sym counted ∙ sym (row-length old ts))
       (λ m below.
-      let few : m < count = omega (arith, row-length rules1991 ts, counted) in
+      let few : m < count = omega (arith, row-length old ts, counted) in
       kind-at count after m (nowhere .token) few ∙ closed .rows m few
       ∙ today-at 8 (kindOf words) ts (nowhere .token) (λ i k. held-row file words count h i (omega (arith, counted)) .kind) m (omega (arith, counted)))
 
-  closed-run : rowsRun count after ≡ run rules1991 start (todayRow rules1991 (fileTokens file)) noRows
+  closed-run : rowsRun stops count after ≡ run old start (todayRow old (fileTokens file)) noRows
   closed-run =
-      rows-run count after (omega (arith, closed .size, room)) (count-small file words count h)
-      ∙ run-kinds today start (kindTokens count after) (todayRow rules1991 ts) noRows closed-kinds
-      ∙ sym (run-1991 start (todayRow rules1991 ts) noRows)
+      rows-run stops count after (omega (arith, closed .size, room)) (count-small file words count h)
+      ∙ run-kinds (atStops today stops) start (kindTokens count after) (todayRow old ts) noRows closed-kinds
+      ∙ sym (run-same old (atStops today stops) refl refl start (todayRow old ts) noRows)
 
   -- the kinds of an accepted file are put back
-  put-closed : (rows : Rows) → run rules1991 start (todayRow rules1991 (fileTokens file)) noRows ≡ good rows → openedFrames count after ≡ words
+  put-closed : (rows : Rows) → run old start (todayRow old (fileTokens file)) noRows ≡ good rows → openedFrames count after ≡ words
   unfolding layoutRow
   put-closed rows e =
       let fixed : Each Fixed (fileTokens file) = each-fixed today (fileTokens file) (all-formed file) in
-      let back : oldRow (todayRow rules1991 (fileTokens file)) ≡ fileTokens file = row-by rules1991 (fileTokens file) fixed (good-walks rules1991 (todayRow rules1991 (fileTokens file)) start noRows rows e) in
-      let ends : Each NotEnd (fileTokens file) = subst (Each NotEnd) back (old-none (todayRow rules1991 (fileTokens file))) in
+      let back : oldRow (todayRow old (fileTokens file)) ≡ fileTokens file = row-by old (fileTokens file) fixed (good-walks old (todayRow old (fileTokens file)) start noRows rows e) in
+      let ends : Each NotEnd (fileTokens file) = subst (Each NotEnd) back (old-none (todayRow old (fileTokens file))) in
       open-close count words (λ m below k.
       each-at NotEnd (fileTokens file) m (nowhere .token) (omega (arith, count-tokens file words count h)) ends (sym (held-row file words count h m below .kind) ∙ k))
 
@@ -140,28 +143,29 @@ module _ (layout : ℕ) (file words : List ℕ) (count : ℕ) (h : HoldsToday la
   held-places = subst (λ (ws : List ℕ). Places file ws count) (sym (h .rows)) (by (eqb layout 1))
     where
       by : (b : Bool) → Places file (cond b (closedFrames count (heldTable file (length words))) (heldTable file (length words))) count
-      by true = closed-places file (heldTable file (length words)) count (h .table)
-      by false = whole-places file (heldTable file (length words)) count (h .table)
+      by true = closed-places false file (heldTable file (length words)) count (h .table)
+      by false = whole-places false file (heldTable file (length words)) count (h .table)
 
-  pub held-run : rowsRun count words ≡ run (layoutRules layout) start (todayRow (layoutRules layout) (fileTokens file)) noRows
+module _ (layout : ℕ) (stops : Bool) (file words : List ℕ) (count : ℕ) (h : HoldsToday layout file words count) where
+  pub held-run : rowsRun stops count words ≡ run (atStops (layoutRules layout) stops) start (todayRow (atStops (layoutRules layout) stops) (fileTokens file)) noRows
   unfolding asToday layoutRules todayRow
-  held-run = ap (rowsRun count) (h .rows) ∙ by (eqb layout 1)
+  held-run = ap (rowsRun stops count) (h .rows) ∙ by (eqb layout 1)
     where
-      by : (b : Bool) → rowsRun count (cond b (closedFrames count (heldTable file (length words))) (heldTable file (length words)))
-          ≡ run (cond b rules1991 today) start (todayRow (cond b rules1991 today) (fileTokens file)) noRows
-      by true = closed-run file (heldTable file (length words)) count (h .table)
-      by false = whole-run file (heldTable file (length words)) count (h .table)
+      by : (b : Bool) → rowsRun stops count (cond b (closedFrames count (heldTable file (length words))) (heldTable file (length words)))
+          ≡ run (atStops (cond b rules1991 today) stops) start (todayRow (atStops (cond b rules1991 today) stops) (fileTokens file)) noRows
+      by true = closed-run stops file (heldTable file (length words)) count (h .table)
+      by false = whole-run stops file (heldTable file (length words)) count (h .table)
 
   -- where the run accepts, the kinds are put back
-  pub put-back : (rows : Rows) → run (layoutRules layout) start (todayRow (layoutRules layout) (fileTokens file)) noRows ≡ good rows
+  pub put-back : (rows : Rows) → run (atStops (layoutRules layout) stops) start (todayRow (atStops (layoutRules layout) stops) (fileTokens file)) noRows ≡ good rows
       → fromToday layout count words ≡ heldTable file (length words)
   unfolding asToday fromToday layoutRules
   put-back rows e = ap (fromToday layout count) (h .rows) ∙ by (eqb layout 1) e
     where
-      by : (b : Bool) → run (cond b rules1991 today) start (todayRow (cond b rules1991 today) (fileTokens file)) noRows ≡ good rows
+      by : (b : Bool) → run (atStops (cond b rules1991 today) stops) start (todayRow (atStops (cond b rules1991 today) stops) (fileTokens file)) noRows ≡ good rows
           → cond b (openedFrames count (cond b (closedFrames count (heldTable file (length words))) (heldTable file (length words)))) (cond b (closedFrames count (heldTable file (length words))) (heldTable file (length words)))
           ≡ heldTable file (length words)
-      by true g = put-closed file (heldTable file (length words)) count (h .table) rows g
+      by true g = put-closed stops file (heldTable file (length words)) count (h .table) rows g
       by false g = refl
 
 -- the table that splitting and comparing leaves

@@ -1,4 +1,4 @@
--- Which of 8 to 11 is given: the number of the first bad token, which is the only one. At `global_` it is 8 or 10, since names, codes and levels
+-- Which of 8 to 11 and 16 is given: the number of the first bad token, which is the only one. At `global_` it is 8 or 10, since names, codes and levels
 -- decide nothing there; and so at a `save_` alone where `stop_` closes frames, which stands in no file.
 use mathlib.Core.Path.{_≡_, refl, sym, ap, _∙_, subst}
 use mathlib.Core.List.{List, [], _∷_, _++_, map-append}
@@ -7,18 +7,18 @@ use mathlib.Core.Logic.{_⊎_, inl, inr}
 use Prim.Native.Nat.{ℕ, _+_}
 use native.Mathlib.Omega.{arith}
 use lib.Seq.{append-snoc}
-use Rattle.star_lex.specs.Rules.{Rules, atLevels}
+use Rattle.star_lex.specs.Rules.{Rules, atLevels, atStops}
 use Rattle.star_lex.specs.Tokens.{Token, Placed, Each}
 use Rattle.star_lex.proofs.Each.{each-append}
 use Rattle.star_grammar.specs.Tree.{File, frameEnd, frameClose, fileYield, FileBy}
 use Rattle.star_grammar.proofs.Yields.{file-old}
 use Rattle.star_grammar.specs.Tables.{Rows, noRows}
-use Rattle.star_grammar.specs.Machine.{Sort, State, start, within, named, header, body, Step, go, refuse, headerStep, step}
+use Rattle.star_grammar.specs.Machine.{Sort, State, start, within, named, header, body, Step, go, refuse, headerStep, step, walk}
 use Rattle.star_grammar.specs.Layout.{todayRow}
-use Rattle.star_grammar.proofs.Images.{rowImage, row-snoc, same-image, any-row}
+use Rattle.star_grammar.proofs.Images.{rowImage, row-snoc, same-image, row-stops, any-row}
 use Rattle.star_grammar.proofs.Sorts.{sort-global, step-sort}
 use Rattle.star_grammar.proofs.Walking.{Walks, walk-step, halted}
-use Rattle.star_grammar.proofs.Limits.{walk-limit, walks-limit}
+use Rattle.star_grammar.proofs.Limits.{walk-limit, walks-limit, walk-stops}
 use Rattle.star_unique.specs.Repeat.{nothing}
 use Rattle.star_unique.proofs.Seen.{takesAll}
 use Rattle.star_unique.proofs.Clean.{Clean, clean-append}
@@ -55,29 +55,25 @@ refusal-number rules usable file words ps f n place e = bad-number rules file ps
 pub numbers-exclude : NumbersExclude
 numbers-exclude rules = (λ p t m n a b. Numbers.numbers-exclude a b, λ p m n a b. Numbers.end-numbers-exclude a b)
 
--- a step at `global_` asks for no number of levels
-global-step : (rules : Rules) (more : ℕ) (st : State) (r : Rows) → step (atLevels rules more) st Sort.global r ≡ step rules st Sort.global r
+-- a step at `global_` asks for no rules
+global-step : (rules others : Rules) (st : State) (r : Rows) → step others st Sort.global r ≡ step rules st Sort.global r
 unfolding step headerStep
-global-step rules more start r = refl
-global-step rules more (within w) r = refl
-global-step rules more (named w) r = refl
-global-step rules more (header w first before n s) r = refl
-global-step rules more (body w outer l inner f) r = refl
+global-step rules others start r = refl
+global-step rules others (within w) r = refl
+global-step rules others (named w) r = refl
+global-step rules others (header w first before n s) r = refl
+global-step rules others (body w outer l inner f) r = refl
 
--- so where more levels would take it, it is taken
-global-walks : (rules : Rules) (p : List Token) (t : Token) → t .kind ≡ 12 → Walks rules start p noRows → (limit : ℕ)
-    → Walks (atLevels rules limit) start (p ++ (t ∷ [])) noRows → Walks rules start (p ++ (t ∷ [])) noRows
-global-walks rules p t k w limit v = at (step rules (w .0) Sort.global (w .1)) refl
+-- so where other rules would take it that go the same way, it is taken
+global-walks : (rules others : Rules) (p : List Token) (t : Token) → t .kind ≡ 12 → (w : Walks rules start p noRows) → walk others start p noRows ≡ go (w .0) (w .1)
+    → Walks others start (p ++ (t ∷ [])) noRows → Walks rules start (p ++ (t ∷ [])) noRows
+global-walks rules others p t k w same v = at (step rules (w .0) Sort.global (w .1)) refl
   where
-    more : ℕ
-    more = limit + rules .levels
-
     at : (x : Step) → step rules (w .0) Sort.global (w .1) ≡ x → Walks rules start (p ++ (t ∷ [])) noRows
     at (go s u) e = (s, u, walk-step rules start (w .0) p t noRows (w .1) s u (w .2) (step-sort rules (w .0) (t .kind) (w .1) Sort.global (sort-global t k) ∙ e))
     at (refuse n) e =
-        absurd (halted (atLevels rules more) start (w .0) p t noRows (w .1) n (walk-limit rules more (omega arith) start (w .0) p noRows (w .1) (w .2))
-        (step-sort (atLevels rules more) (w .0) (t .kind) (w .1) Sort.global (sort-global t k) ∙ global-step rules more (w .0) (w .1) ∙ e)
-        (walks-limit (atLevels rules limit) more (omega arith) start (p ++ (t ∷ [])) noRows v))
+        absurd (halted others start (w .0) p t noRows (w .1) n same
+        (step-sort others (w .0) (t .kind) (w .1) Sort.global (sort-global t k) ∙ global-step rules others (w .0) (w .1) ∙ e) v)
 
 pub global-number : GlobalNumber
 global-number rules usable file words ps f n place e p t q i b k kind = at (refusal-number rules usable file words ps f n place e .0 p t q i b k)
@@ -107,11 +103,20 @@ global-number rules usable file words ps f n place e p t q i b k kind = at (refu
 
     at : {m : ℕ} → NumberAt rules (tokensOnly p) (t .token) m → (m ≡ 8) ⊎ (m ≡ 10)
     at (NumberAt.taken s) = absurd (begins (subst (λ ts. Walks rules start ts noRows) (row-snoc rules (tokensOnly p) (t .token) ∙ next) (shape-walks rules row s)))
+    at (NumberAt.retired g s) =
+        let w : Walks rules start (todayRow rules (tokensOnly p)) noRows = begins-walks rules (tokensOnly p) b in
+        let v : Walks (atStops rules true) start (todayRow (atStops rules true) row) noRows = shape-walks (atStops rules true) row s in
+        absurd (begins (global-walks rules (atStops rules true) (todayRow rules (tokensOnly p)) (t .token) kind w
+        (walk-stops rules start (w .0) (todayRow rules (tokensOnly p)) noRows (w .1) (w .2))
+        (subst (λ ts. Walks (atStops rules true) start ts noRows) (row-stops rules true row ∙ row-snoc rules (tokensOnly p) (t .token) ∙ next) v)))
     at (NumberAt.deep g limit s) =
+        let more : ℕ = limit + rules .levels in
         let w : Walks rules start (todayRow rules (tokensOnly p)) noRows = begins-walks rules (tokensOnly p) b in
         let v : Walks (atLevels rules limit) start (todayRow (atLevels rules limit) row) noRows = shape-walks (atLevels rules limit) row s in
-        absurd (begins (global-walks rules (todayRow rules (tokensOnly p)) (t .token) kind w limit
-        (subst (λ ts. Walks (atLevels rules limit) start ts noRows) (any-row rules limit (tokensOnly p) (t .token) w v ∙ next) v)))
+        absurd (begins (global-walks rules (atLevels rules more) (todayRow rules (tokensOnly p)) (t .token) kind w
+        (walk-limit rules more (omega arith) start (w .0) (todayRow rules (tokensOnly p)) noRows (w .1) (w .2))
+        (walks-limit (atLevels rules limit) more (omega arith) start _ noRows
+        (subst (λ ts. Walks (atLevels rules limit) start ts noRows) (any-row rules limit (tokensOnly p) (t .token) w v ∙ next) v))))
     at (NumberAt.packet g v h) = inr refl
     at (NumberAt.other g h) = inl refl
 
@@ -136,6 +141,7 @@ save-number rules usable e = (save-begins rules e, refused-at)
   where
     at : (p : List Token) (t : Token) → t .kind ≡ 3 → {m : ℕ} → NumberAt rules p t m → (m ≡ 8) ⊎ (m ≡ 10)
     at p t k (NumberAt.taken s) = absurd (save-shape rules e p t k s)
+    at p t k (NumberAt.retired g s) = absurd (save-shape (atStops rules true) e p t k s)
     at p t k (NumberAt.deep g limit s) = absurd (save-shape (atLevels rules limit) e p t k s)
     at p t k (NumberAt.packet g v h) = inr refl
     at p t k (NumberAt.other g h) = inl refl

@@ -1,5 +1,6 @@
 -- What an answer of `judge` tells of the outcome: a refusal is the outcome's, and no refusal means that the run is good and every table has room.
 use mathlib.Core.Path.{_≡_, refl, sym, _∙_, ap, subst}
+use mathlib.Core.Bool.{Bool}
 use mathlib.Core.List.{List}
 use Prim.Native.Nat.{ℕ, _*_, _≤_}
 use native.Mathlib.Omega.{arith}
@@ -11,7 +12,7 @@ use Rattle.star_text.proofs.Cases.{impossible, cond-cases}
 use Rattle.star_rows.specs.Widths.{setWidth, nameWidth, packetWidth, valueWidth}
 use Rattle.star_rows.specs.Rows.{holding, clearedFrom}
 use Rattle.star_rows.proofs.Stored.{stored-holding}
-use Rattle.star_lex.specs.Rules.{layoutRules}
+use Rattle.star_lex.specs.Rules.{layoutRules, atStops}
 use Rattle.star_lex.specs.Tokens.{Placed, tokenRow}
 use Rattle.star_lex.specs.Split.{placed, tokensOf}
 use Rattle.star_grammar.specs.Tables.{Rows, noRows, setWords, nameWords, packetWords, valueWords}
@@ -128,31 +129,31 @@ sizesOf n t = words n (length (t .sets)) (length (t .names)) (length (t .packets
 same-words : (n : ℕ) (before after : FourTables) → SameSizes before after → sizesOf n after ≡ sizesOf n before
 same-words n before after k = rw (k .sets, k .names, k .packets, k .values)
 
-module _ (layout : ℕ) (file table : List ℕ) (count : ℕ) (h : HoldsToday layout file table count) (before mid : FourTables) (k : SameSizes before mid) (r : Parsed)
-    (a : Answers count (rowsRun count table) before r mid) (taken : ℕ) (first : taken ≡ firstRepeat nothing (todayRow (layoutRules layout) (fileTokens file))) (j : Judged)
+module _ (layout : ℕ) (stops : Bool) (file table : List ℕ) (count : ℕ) (h : HoldsToday layout file table count) (before mid : FourTables) (k : SameSizes before mid) (r : Parsed)
+    (a : Answers count (rowsRun stops count table) before r mid) (taken : ℕ) (first : taken ≡ firstRepeat nothing (todayRow (atStops (layoutRules layout) stops) (fileTokens file))) (j : Judged)
     (e : (x : Run) → Numbered x → Ran x count r → j ≡ judgedOf (then (decide (length file) (placed (tokensOf file)) taken x) (rowsFit (sizesOf (length table) mid)))) where
   -- the run over the tokens
   abbrev ran : Run
-  ran = run (layoutRules layout) start (todayRow (layoutRules layout) (fileTokens file)) noRows
+  ran = run (atStops (layoutRules layout) stops) start (todayRow (atStops (layoutRules layout) stops) (fileTokens file)) noRows
 
   answers : Answers count ran before r mid
-  answers = subst (λ x. Answers count x before r mid) (held-run layout file table count h) a
+  answers = subst (λ x. Answers count x before r mid) (held-run layout stops file table count h) a
 
-  judged-before : j ≡ judgedOf (then (grammarOf (layoutRules layout) (length file) (placed (tokensOf file))) (rowsFit (sizesOf (length table) before)))
+  judged-before : j ≡ judgedOf (then (grammarOf (atStops (layoutRules layout) stops) (length file) (placed (tokensOf file))) (rowsFit (sizesOf (length table) before)))
   unfolding grammarOf
   judged-before =
-      e ran (run-number (layoutRules layout) start (todayRow (layoutRules layout) (fileTokens file)) noRows) (answer-ran ran count before mid r answers)
+      e ran (run-number (atStops (layoutRules layout) stops) start (todayRow (atStops (layoutRules layout) stops) (fileTokens file)) noRows) (answer-ran ran count before mid r answers)
       ∙ λ i. judgedOf (then (decide (length file) (placed (tokensOf file)) (first i) ran) (rowsFit (same-words (length table) before mid k i)))
 
   pub outcome-refused : (j .refusal ≡ 0 → ⊥)
-      → then (grammarOf (layoutRules layout) (length file) (placed (tokensOf file))) (rowsFit (sizesOf (length table) before)) ≡ refused (j .refusal) (j .place)
+      → then (grammarOf (atStops (layoutRules layout) stops) (length file) (placed (tokensOf file))) (rowsFit (sizesOf (length table) before)) ≡ refused (j .refusal) (j .place)
   outcome-refused f = judged-refused _ j judged-before f
 
   pub outcome-settled : j .refusal ≡ 0
-      → Settled (sizesOf (length table) before) (length file) (placed (tokensOf file)) (firstRepeat nothing (todayRow (layoutRules layout) (fileTokens file))) ran
+      → Settled (sizesOf (length table) before) (length file) (placed (tokensOf file)) (firstRepeat nothing (todayRow (atStops (layoutRules layout) stops) (fileTokens file))) ran
   unfolding grammarOf
   outcome-settled z =
-      settled _ _ _ _ _ (run-number (layoutRules layout) start (todayRow (layoutRules layout) (fileTokens file)) noRows) (sym (ap (λ g. g .refusal) judged-before) ∙ z)
+      settled _ _ _ _ _ (run-number (atStops (layoutRules layout) stops) start (todayRow (atStops (layoutRules layout) stops) (fileTokens file)) noRows) (sym (ap (λ g. g .refusal) judged-before) ∙ z)
 
   pub rows-accepted : (rows : Rows) → ran ≡ good rows → Accepted count rows before r mid
   rows-accepted rows g = subst (λ x. Answers count x before r mid) g answers

@@ -7,7 +7,7 @@ use Rattle.star_text.specs.Outcome.{Outcome, refused, accepted}
 use Rattle.star_rows.specs.Rows.{holding}
 use Rattle.star_lex.specs.Tokens.{tokenRow}
 use Rattle.star_grammar.specs.Tables.{setWords, nameWords, packetWords, valueWords}
-use Rattle.star_read.specs.Read.{FileRows, ReadOutcome, Sizes, readIn, readOf}
+use Rattle.star_read.specs.Read.{FileRows, ReadOutcome, Sizes, readIn, readOf, readOld}
 use Rattle.star_read.specs.declared.Answer.{Answer}
 
 -- refusal and place, both 0 when accepted, and the five row counts
@@ -88,6 +88,10 @@ pub record Gives (o : ReadOutcome) (before after : Tables) (r : Answer) : Type 0
 -- the contract of reading: the answer, and every word of the five tables
 abbrev pub Reads : (file : List ℕ) (before after : Tables) → Answer → Type 0
 Reads file before after r = Gives (readOf file (sizes before)) before after r
+
+-- of reading an old file
+abbrev pub ReadsOld : (file : List ℕ) (before after : Tables) → Answer → Type 0
+ReadsOld file before after r = Gives (readOld file (sizes before)) before after r
 
 -- and of reading in a layout
 abbrev pub ReadsIn : (layout : ℕ) (file : List ℕ) (before after : Tables) → Answer → Type 0

@@ -8,7 +8,7 @@ use lib.ListN.{length}
 use Rattle.star_text.specs.Outcome.{refused, accepted}
 use Rattle.star_rows.specs.Widths.{tokenWidth, setWidth, nameWidth, packetWidth, valueWidth}
 use Rattle.star_text.specs.Bytes.{mostBytes}
-use Rattle.star_lex.specs.Rules.{Rules, today, layoutRules, atLevels, atLongest}
+use Rattle.star_lex.specs.Rules.{Rules, today, layoutRules, atLevels, atLongest, atStops}
 use Rattle.star_lex.specs.Tokens.{Token, Placed, Each}
 use Rattle.star_lex.specs.Split.{tokensBy}
 use Rattle.star_lex.specs.Fits.{fits}
@@ -105,19 +105,21 @@ pub record ValueSince (p : List Token) : Type 0 where
 abbrev pub NoName : (rules : Rules) → List Token → Type 0
 NoName rules p = (x : Token) → IsName x → BeginsShape rules (p ++ (x ∷ [])) → ⊥
 
--- the number of refusal of a token after a row that begins a file, which it does not with the token
+-- the number of refusal of a token after a row that begins a file, which it does not with the token: 16 where it does by the old rules, which allow header stops; 11 where it does with
+-- more levels; 10 and 8 where it does by the old rules with no number of levels
 pub data NumberAt (rules : Rules) (p : List Token) (t : Token) : ℕ → Type 0 where
   taken : BeginsShape rules (p ++ (t ∷ [])) → NumberAt rules p t 9
-  deep : (BeginsShape rules (p ++ (t ∷ [])) → ⊥) → (limit : ℕ) → BeginsShape (atLevels rules limit) (p ++ (t ∷ [])) → NumberAt rules p t 11
-  packet : ((limit : ℕ) → BeginsShape (atLevels rules limit) (p ++ (t ∷ [])) → ⊥) → ValueSince p → NoName rules p → NumberAt rules p t 10
-  other : ((limit : ℕ) → BeginsShape (atLevels rules limit) (p ++ (t ∷ [])) → ⊥) → (ValueSince p → NoName rules p → ⊥) → NumberAt rules p t 8
+  retired : (BeginsShape rules (p ++ (t ∷ [])) → ⊥) → BeginsShape (atStops rules true) (p ++ (t ∷ [])) → NumberAt rules p t 16
+  deep : (BeginsShape (atStops rules true) (p ++ (t ∷ [])) → ⊥) → (limit : ℕ) → BeginsShape (atLevels rules limit) (p ++ (t ∷ [])) → NumberAt rules p t 11
+  packet : ((limit : ℕ) → BeginsShape (atLevels (atStops rules true) limit) (p ++ (t ∷ [])) → ⊥) → ValueSince p → NoName rules p → NumberAt rules p t 10
+  other : ((limit : ℕ) → BeginsShape (atLevels (atStops rules true) limit) (p ++ (t ∷ [])) → ⊥) → (ValueSince p → NoName rules p → ⊥) → NumberAt rules p t 8
 
 -- the number of refusal at the end of a row that begins a file
 pub data NumberAtEnd (rules : Rules) (p : List Token) : ℕ → Type 0 where
   packet : ValueSince p → NoName rules p → NumberAtEnd rules p 10
   other : (ValueSince p → NoName rules p → ⊥) → NumberAtEnd rules p 8
 
--- which of 8 to 11 is given
+-- which of 8 to 11 and 16 is given
 abbrev pub RefusalNumber : Type 0
 RefusalNumber = (rules : Rules) → Usable rules → (file : List ℕ) (words : Sizes) (ps : List Placed) → Fair rules file words ps
     → (n place : ℕ) → readBy rules file words ≡ refused n place
@@ -125,7 +127,7 @@ RefusalNumber = (rules : Rules) → Usable rules → (file : List ℕ) (words : 
     → (Begins rules (tokensOnly (p ++ (t ∷ []))) → ⊥) → NumberAt rules (tokensOnly p) (t .token) n)
     × (Begins rules (tokensOnly ps) → NumberAtEnd rules (tokensOnly ps) n)
 
--- 8 to 11 exclude one another, at a token and at the end
+-- 8 to 11 and 16 exclude one another, at a token and at the end
 abbrev pub NumbersExclude : Type 0
 NumbersExclude = (rules : Rules)
     → ((p : List Token) (t : Token) (m n : ℕ) → NumberAt rules p t m → NumberAt rules p t n → m ≡ n)
@@ -188,6 +190,7 @@ pub data Numbered (size : ℕ) : (number place : ℕ) → Type 0 where
   byte : (n place : ℕ) → 2 ≤ n → n ≤ 6 → place < size → Numbered size n place
   table : (place : ℕ) → 1 ≤ place → place ≤ 5 → Numbered size 7 place
   token : (n place : ℕ) → 8 ≤ n → n ≤ 11 → place < size → Numbered size n place
+  retired : (place : ℕ) → place < size → Numbered size 16 place
   end : (n : ℕ) → (n ≡ 8) ⊎ (n ≡ 10) → Numbered size n size
 
 -- a file within the size limit that by the rules splits into tokens which have a reading
@@ -253,3 +256,9 @@ OldBenchSameOrFour = (rules : Rules) (old : ℕ) → old ≤ rules .longest → 
 abbrev pub ByLayout : Type 0
 ByLayout = (layout : ℕ) (file : List ℕ) (words : Sizes)
     → (layout ≤ 1 → readIn layout file words ≡ readBy (layoutRules layout) file words) × (1 < layout → readIn layout file words ≡ refused 14 0)
+
+-- of any file and any tables, reading without header stops gives what reading with them gives, or 16
+abbrev pub SameOrSixteen : Type 0
+SameOrSixteen = (rules : Rules) (file : List ℕ) (words : Sizes)
+    → (readBy (atStops rules false) file words ≡ readBy (atStops rules true) file words)
+    ⊎ ((place : ℕ) × (readBy (atStops rules false) file words ≡ refused 16 place))

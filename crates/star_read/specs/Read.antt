@@ -1,4 +1,4 @@
--- What reading a file gives: specification 8, and in a layout 20. For contracts, of `read`, `read_layout` and of what reads first. What is accepted, with which rows, and where a file is
+-- What reading a file gives: specification 8, in a layout 20, and with header stops 21. For contracts, of `read`, `read_layout`, `read_old` and of what reads first. What is accepted, with which rows, and where a file is
 -- refused is said without a machine by specs/Demands.antt; of `readIn` by `ByLayout`.
 use mathlib.Core.Bool.{cond}
 use mathlib.Core.List.{List, [], _∷_, map}
@@ -8,7 +8,7 @@ use lib.ListN.{length}
 use Rattle.star_text.specs.Outcome.{Outcome, refused, accepted, then, need}
 use Rattle.star_rows.specs.Rows.{hasRoom}
 use Rattle.star_rows.specs.Widths.{setWidth, nameWidth, packetWidth, valueWidth}
-use Rattle.star_lex.specs.Rules.{Rules, today, layoutRules}
+use Rattle.star_lex.specs.Rules.{Rules, today, oldHeaders, layoutRules}
 use Rattle.star_lex.specs.Tokens.{Token, Placed}
 use Rattle.star_lex.specs.Answer.{tokensInBy}
 use Rattle.star_grammar.specs.Tables.{Rows, noRows}
@@ -67,6 +67,24 @@ readBy rules file words = then (tokensInBy rules file (words .tokens)) (λ ps. t
 -- in a layout, 0 or 1: any other number is 14, before all else
 unfoldable pub readIn : (layout : ℕ) → List ℕ → Sizes → ReadOutcome
 readIn layout file words = need (leb layout 1) 14 0 (readBy (layoutRules layout) file words)
+
+-- an old file, whose loops may have header stops
+abbrev pub readOld : List ℕ → Sizes → ReadOutcome
+readOld file words = readBy oldHeaders file words
+
+-- how a call reads a file: in a layout, or as an old file
+pub data Way : Type 0 where
+  in-layout : (layout : ℕ) → Way
+  as-old : Way
+
+-- the rules of a way, and reading in it
+abbrev pub wayRules : Way → Rules
+wayRules (in-layout layout) = layoutRules layout
+wayRules as-old = oldHeaders
+
+abbrev pub readVia : Way → List ℕ → Sizes → ReadOutcome
+readVia (in-layout layout) file words = readIn layout file words
+readVia as-old file words = readOld file words
 
 -- by today's rules
 abbrev pub readOf : List ℕ → Sizes → ReadOutcome

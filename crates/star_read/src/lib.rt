@@ -2,7 +2,7 @@
 ghost use mathlib.Core.Path.{_≡_};
 ghost use Prim.Native.Nat.{ℕ};
 ghost use lib.ListN.{length};
-ghost use Rattle.star_lex.specs.Rules.{layoutRules};
+ghost use Rattle.star_lex.specs.Rules.{layoutRules, atStops};
 ghost use Rattle.star_lex.specs.Split.{placed, tokensOf};
 ghost use Rattle.star_lex.specs.Holds.{fileTokens};
 ghost use Rattle.star_grammar.specs.Machine.{Run};
@@ -10,7 +10,7 @@ ghost use Rattle.star_grammar.specs.Layout.{todayRow};
 ghost use Rattle.star_unique.specs.Repeat.{nothing, firstRepeat};
 ghost use Rattle.star_text.specs.Outcome.{refused, accepted, then};
 ghost use Rattle.star_read.specs.Read.{tokenPlace, decide, roomFor, rowsFit, grammarOf, readBy};
-ghost use Rattle.star_read.specs.Answer.{tables, sizes, words, Leaves, Gives, Reads, ReadsIn};
+ghost use Rattle.star_read.specs.Answer.{tables, sizes, words, Leaves, Gives, Reads, ReadsOld, ReadsIn};
 ghost use Rattle.star_read.specs.Judged.{Places, HoldsToday, judgedOf, Ran, Numbered, ClearedBehind};
 ghost use Rattle.star_parse.specs.Parsed.{fourTables as four};
 use star_parse::Parsed;
@@ -180,7 +180,7 @@ fn clear_behind(
     );
 }
 
-// Reads the rows of a file whose tokens table 1 holds, with the kinds of today's layout; `taken` of them stand before the first that is taken.
+// Reads the rows of a file whose tokens table 1 holds, with the kinds of today's layout, and whose loops may have header stops or not; `taken` of them stand before the first that is taken.
 fn read_tables(
     file: &[u8],
     layout: u32,
@@ -191,16 +191,17 @@ fn read_tables(
     values: &mut [u32],
     count: u32,
     taken: usize,
+    stops: bool,
 ) -> Answer
     requires { ⌜ HoldsToday layout (now file) (now tokens) count ⌝ }
-    requires { ⌜ taken ≡ firstRepeat nothing (todayRow (layoutRules layout) (fileTokens (now file))) ⌝ }
-    ensures { λ r. ⌜ Gives (then (grammarOf (layoutRules layout) (length (now (file .entry))) (placed (tokensOf (now (file .entry)))))
+    requires { ⌜ taken ≡ firstRepeat nothing (todayRow (atStops (layoutRules layout) stops) (fileTokens (now file))) ⌝ }
+    ensures { λ r. ⌜ Gives (then (grammarOf (atStops (layoutRules layout) stops) (length (now (file .entry))) (placed (tokensOf (now (file .entry)))))
         (rowsFit (sizes (tables (now (tokens .entry)) (now (sets .entry)) (now (names .entry)) (now (packets .entry)) (now (values .entry))))))
         (tables (now (tokens .entry)) (now (sets .entry)) (now (names .entry)) (now (packets .entry)) (now (values .entry)))
         (tables (now (tokens .exit)) (now (sets .exit)) (now (names .exit)) (now (packets .exit)) (now (values .exit))) r ⌝ }
 {
     let n = count as usize;
-    let rows = star_parse::read_rows(tokens, n, sets, names, packets, values);
+    let rows = star_parse::read_rows(tokens, n, sets, names, packets, values, stops);
     let judged = judge(
         file,
         tokens,
@@ -236,7 +237,7 @@ fn read_tables(
     }
 }
 
-// Reads a file of a layout into the five tables; layout 1 is that of 1991, and any other number is today's.
+// Reads a file of a layout, with header stops or without, into the five tables; layout 1 is that of 1991, and any other number is today's.
 fn read_as(
     file: &[u8],
     layout: u32,
@@ -245,8 +246,9 @@ fn read_as(
     names: &mut [u32],
     packets: &mut [u32],
     values: &mut [u32],
+    stops: bool,
 ) -> Answer
-    ensures { λ r. ⌜ Gives (readBy (layoutRules layout) (now (file .entry))
+    ensures { λ r. ⌜ Gives (readBy (atStops (layoutRules layout) stops) (now (file .entry))
         (sizes (tables (now (tokens .entry)) (now (sets .entry)) (now (names .entry)) (now (packets .entry)) (now (values .entry)))))
         (tables (now (tokens .entry)) (now (sets .entry)) (now (names .entry)) (now (packets .entry)) (now (values .entry)))
         (tables (now (tokens .exit)) (now (sets .exit)) (now (names .exit)) (now (packets .exit)) (now (values .exit))) r ⌝ }
@@ -273,6 +275,7 @@ fn read_as(
         values,
         found.count,
         found.taken,
+        stops,
     )
 }
 
@@ -289,7 +292,23 @@ pub fn read(
         (tables (now (tokens .entry)) (now (sets .entry)) (now (names .entry)) (now (packets .entry)) (now (values .entry)))
         (tables (now (tokens .exit)) (now (sets .exit)) (now (names .exit)) (now (packets .exit)) (now (values .exit))) r ⌝ }
 {
-    read_as(file, 0, tokens, sets, names, packets, values)
+    read_as(file, 0, tokens, sets, names, packets, values, false)
+}
+
+// Reads an old file, whose loops may have header stops, into the five tables, by today's layout. On a refusal the counts and every word of every table are 0.
+pub fn read_old(
+    file: &[u8],
+    tokens: &mut [u32],
+    sets: &mut [u32],
+    names: &mut [u32],
+    packets: &mut [u32],
+    values: &mut [u32],
+) -> Answer
+    ensures { λ r. ⌜ ReadsOld (now (file .entry))
+        (tables (now (tokens .entry)) (now (sets .entry)) (now (names .entry)) (now (packets .entry)) (now (values .entry)))
+        (tables (now (tokens .exit)) (now (sets .exit)) (now (names .exit)) (now (packets .exit)) (now (values .exit))) r ⌝ }
+{
+    read_as(file, 0, tokens, sets, names, packets, values, true)
 }
 
 // The number of the last layout.
@@ -316,5 +335,5 @@ pub fn read_layout(
     if layout > LAST_LAYOUT {
         return refuse(tokens, sets, names, packets, values, NO_LAYOUT, 0);
     }
-    read_as(file, layout, tokens, sets, names, packets, values)
+    read_as(file, layout, tokens, sets, names, packets, values, false)
 }

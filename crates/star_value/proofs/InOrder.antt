@@ -5,13 +5,13 @@ use Rattle.star_value.specs.Demands.{ValuesInOrder, Column}
 use Rattle.star_value.proofs.Values.{chain-left, value-found, value-none}
 
 pub values-in-order : ValuesInOrder
-values-in-order layout file words ps rows e name low high =
-    let k : RowsAfter ps rows _ = rows-after layout file words ps rows e (reading-in layout file words ps rows e .0) in
-    rw (lent-left layout file words ps rows e, counts-counted layout file words ps rows e)
-    (value-found layout file words ps rows e (k .linked) (k .inside) name low high, value-none layout file words ps rows e (k .linked) (k .inside) name low high)
+values-in-order way file words ps rows e name low high =
+    let k : RowsAfter ps rows _ = rows-after way file words ps rows e (reading-in way file words ps rows e .0) in
+    rw (lent-left way file words ps rows e, counts-counted way file words ps rows e)
+    (value-found way file words ps rows e (k .linked) (k .inside) name low high, value-none way file words ps rows e (k .linked) (k .inside) name low high)
 
 pub column : Column
 unfolding tablesOf readAnswer left counted
-column layout file words ps rows e name =
-    let k : RowsAfter ps rows _ = rows-after layout file words ps rows e (reading-in layout file words ps rows e .0) in
+column way file words ps rows e name =
+    let k : RowsAfter ps rows _ = rows-after way file words ps rows e (reading-in way file words ps rows e .0) in
     rw e (chain-left file words ps rows (k .linked) name)

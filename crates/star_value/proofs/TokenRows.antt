@@ -14,7 +14,7 @@ use Rattle.star_lex.proofs.Splitting.{row-wide}
 use Rattle.star_lex.proofs.Held.{nowhere}
 use Rattle.star_grammar.specs.Tables.{Rows}
 use Rattle.star_grammar.proofs.RowsOf.{IsToken}
-use Rattle.star_read.specs.Read.{Sizes, tokensOnly, readIn}
+use Rattle.star_read.specs.Read.{Sizes, tokensOnly, Way, readVia}
 use Rattle.star_find.specs.Demands.{contentOf}
 use Rattle.star_find.proofs.After.{token-row, token-at}
 use Rattle.star_value.specs.Values.{spanAt}
@@ -26,9 +26,9 @@ kind-at ps row =
     sym (List·getD-map (λ t. t .kind) (tokensOnly ps) (row - 1) (record { kind = 0; content = [] }))
     ∙ ap (λ ks. getD ks (row - 1) 0) (map-map (λ t. t .kind) (λ p. p .token) ps)
 
-module _ (layout : ℕ) (file : List ℕ) (words : Sizes) (ps : List Placed) (rows : Rows) (e : readIn layout file words ≡ accepted (ps, rows)) (row : ℕ) (is : IsToken (length ps) row) where
+module _ (way : Way) (file : List ℕ) (words : Sizes) (ps : List Placed) (rows : Rows) (e : readVia way file words ≡ accepted (ps, rows)) (row : ℕ) (is : IsToken (length ps) row) where
   pub token-kind : wordOf (holding tokenRow ps (words .tokens)) 3 row 0 ≡ tokenKind ps row
-  token-kind = rw (word-row (holding tokenRow ps (words .tokens)) 3 row 0 (is .0), add-zero, token-row layout file words ps rows e row is .kind, token-at layout file words ps rows e row is, kind-at)
+  token-kind = rw (word-row (holding tokenRow ps (words .tokens)) 3 row 0 (is .0), add-zero, token-row way file words ps rows e row is .kind, token-at way file words ps rows e row is, kind-at)
 
   -- and its span
   pub token-span : spanAt (holding tokenRow ps (words .tokens)) row ≡ spanOf ps row

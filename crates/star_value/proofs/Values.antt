@@ -19,7 +19,7 @@ use Rattle.star_grammar.proofs.Linked.{Linked}
 use Rattle.star_grammar.proofs.Linking.{noValue}
 use Rattle.star_grammar.proofs.RowsOf.{IsToken, Inside}
 use Rattle.star_lex.proofs.Each.{each-at}
-use Rattle.star_read.specs.Read.{Sizes, readIn}
+use Rattle.star_read.specs.Read.{Sizes, Way, readVia}
 use Rattle.star_find.specs.Find.{isRow, contentAt, rowThere, found, refused}
 use Rattle.star_value.specs.Values.{firstValue, valueRow, missing, located, locate, valueOf, valueAt, valuePart, spanAt, valueSpan}
 use Rattle.star_find.specs.Demands.{contentOf}
@@ -49,7 +49,7 @@ module _ (file : List ℕ) (words : Sizes) (ps : List Placed) (rows : Rows) (lin
   chain-left name = rw (first-is (left file words ps rows .values) name 1 (rows .values) links-left)
       (chain-from (left file words ps rows .values) name 1 (rows .values) (omega arith) links-left)
 
-module _ (layout : ℕ) (file : List ℕ) (words : Sizes) (ps : List Placed) (rows : Rows) (e : readIn layout file words ≡ accepted (ps, rows))
+module _ (way : Way) (file : List ℕ) (words : Sizes) (ps : List Placed) (rows : Rows) (e : readVia way file words ≡ accepted (ps, rows))
     (linked : Linked 1 (rows .values)) (inside : Inside (length ps) (rows .sets) (rows .names) (rows .values))
     (name : ℕ) (low : 1 ≤ name) (high : name ≤ length (rows .names)) where
   locates : (k : ℕ) (f : Found) → valueRow (left file words ps rows .values) (length (rows .values)) name k ≡ f
@@ -67,15 +67,15 @@ module _ (layout : ℕ) (file : List ℕ) (words : Sizes) (ps : List Placed) (ro
 
     value-located : located (left file words ps rows) (counted ps rows) (found (suc i)) ≡ placed v
     unfolding located found left counted valueWords isSome
-    value-located = rw (value-word 2 (omega arith), token-content layout file words ps rows e (v .value) value-token, value-word 1 (omega arith))
+    value-located = rw (value-word 2 (omega arith), token-content way file words ps rows e (v .value) value-token, value-word 1 (omega arith))
 
     value-is : valueOf (left file words ps rows) (placed v) ≡ record { refusal = 0; kind = tokenKind ps (v .value); packet = v .packet }
     unfolding valueOf left
-    value-is = rw (token-kind layout file words ps rows e (v .value) value-token)
+    value-is = rw (token-kind way file words ps rows e (v .value) value-token)
 
     part-is : orEmpty (contentAt file (holding tokenRow ps (words .tokens)) (length ps) (v .value)) ≡ contentOf ps (v .value)
     unfolding orEmpty
-    part-is = rw (token-content layout file words ps rows e (v .value) value-token)
+    part-is = rw (token-content way file words ps rows e (v .value) value-token)
 
   pub value-found : (before : List ValueRow) (v : ValueRow) (behind : List ValueRow) → ofName name (rows .values) ≡ before ++ (v ∷ behind)
       → (valueAt (left file words ps rows) (counted ps rows) name (suc (length before)) ≡ record { refusal = 0; kind = tokenKind ps (v .value); packet = v .packet })
@@ -89,7 +89,7 @@ module _ (layout : ℕ) (file : List ℕ) (words : Sizes) (ps : List Placed) (ro
       = locates (suc (length before)) _ (p .2) ∙ value-located v (p .0) (p .1) (p .3) in (
         ap (valueOf (left file words ps rows)) q ∙ value-is v (p .0) (p .1) (p .3),
         rw q (part-is v (p .0) (p .1) (p .3)),
-        rw q (token-span layout file words ps rows e (v .value) (value-token v (p .0) (p .1) (p .3))),
+        rw q (token-span way file words ps rows e (v .value) (value-token v (p .0) (p .1) (p .3))),
       )
 
   pub value-none : (n : ℕ) → (n ≡ 0) ⊎ (length (ofName name (rows .values)) < n)

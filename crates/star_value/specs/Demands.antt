@@ -1,4 +1,4 @@
--- What is demanded of values in the tables and counts as the reader left them, in either layout: statements alone, over the reading. Believed; star's Demands cites it.
+-- What is demanded of values in the tables and counts as the reader left them, in either layout or as an old file: statements alone, over the reading. Believed; star's Demands cites it.
 use mathlib.Core.Path.{_≡_}
 use mathlib.Core.Bool.{cond}
 use mathlib.Core.Logic.{_⊎_}
@@ -11,7 +11,7 @@ use Rattle.star_rows.specs.Widths.{valueWidth}
 use Rattle.star_rows.specs.Rows.{wordOf}
 use Rattle.star_lex.specs.Tokens.{Placed, opening}
 use Rattle.star_grammar.specs.Tables.{Rows, ValueRow}
-use Rattle.star_read.specs.Read.{Sizes, readIn}
+use Rattle.star_read.specs.Read.{Sizes, Way, readVia}
 use Rattle.star_find.specs.Find.{Lent}
 use Rattle.star_find.specs.Demands.{lentAfter, countsAfter, contentOf}
 use Rattle.star_find.specs.declared.Counts.{Counts}
@@ -37,8 +37,8 @@ pub data Chain (values : List ℕ) : (row : ℕ) → List ℕ → Type 0 where
 -- in the tables that reading leaves, the links from the first value row of a name row on lead through each of its value rows once, in file order, and
 -- through nothing else
 abbrev pub Column : Type 0
-Column = (layout : ℕ) (file : List ℕ) (words : Sizes) (ps : List Placed) (rows : Rows) → readIn layout file words ≡ accepted (ps, rows) → (name : ℕ)
-    → Chain (lentAfter layout file words .values) (firstValue (lentAfter layout file words .values) name (countsAfter layout file words .values) 1) (numbersOf name 1 (rows .values))
+Column = (way : Way) (file : List ℕ) (words : Sizes) (ps : List Placed) (rows : Rows) → readVia way file words ≡ accepted (ps, rows) → (name : ℕ)
+    → Chain (lentAfter way file words .values) (firstValue (lentAfter way file words .values) name (countsAfter way file words .values) 1) (numbersOf name 1 (rows .values))
 
 unfoldable pub tokenKind : List Placed → (row : ℕ) → ℕ
 tokenKind ps row = getD (map (λ p. p .token .kind) ps) (row - 1) 0
@@ -52,16 +52,16 @@ spanOf ps row =
 -- the values of a name row, k = 1, 2, .., are those of the reading in file order, each with its packet and the content of its token, where that
 -- lies; past the last there is none
 abbrev pub ValuesInOrder : Type 0
-ValuesInOrder = (layout : ℕ) (file : List ℕ) (words : Sizes) (ps : List Placed) (rows : Rows) → readIn layout file words ≡ accepted (ps, rows)
+ValuesInOrder = (way : Way) (file : List ℕ) (words : Sizes) (ps : List Placed) (rows : Rows) → readVia way file words ≡ accepted (ps, rows)
     → (name : ℕ) → 1 ≤ name → name ≤ length (rows .names)
     → ((before : List ValueRow) (v : ValueRow) (behind : List ValueRow) → ofName name (rows .values) ≡ before ++ (v ∷ behind)
-    → (valueAt (lentAfter layout file words) (countsAfter layout file words) name (suc (length before)) ≡ record { refusal = 0; kind = tokenKind ps (v .value); packet = v .packet })
-    × (valuePart (lentAfter layout file words) (countsAfter layout file words) name (suc (length before)) ≡ contentOf ps (v .value))
-    × (valueSpan (lentAfter layout file words) (countsAfter layout file words) name (suc (length before)) ≡ spanOf ps (v .value)))
+    → (valueAt (lentAfter way file words) (countsAfter way file words) name (suc (length before)) ≡ record { refusal = 0; kind = tokenKind ps (v .value); packet = v .packet })
+    × (valuePart (lentAfter way file words) (countsAfter way file words) name (suc (length before)) ≡ contentOf ps (v .value))
+    × (valueSpan (lentAfter way file words) (countsAfter way file words) name (suc (length before)) ≡ spanOf ps (v .value)))
     × ((k : ℕ) → (k ≡ 0) ⊎ (length (ofName name (rows .values)) < k)
-    → (valueAt (lentAfter layout file words) (countsAfter layout file words) name k ≡ record { refusal = 13; kind = 0; packet = 0 })
-    × (valuePart (lentAfter layout file words) (countsAfter layout file words) name k ≡ [])
-    × (valueSpan (lentAfter layout file words) (countsAfter layout file words) name k ≡ record { start = 0; end = 0 }))
+    → (valueAt (lentAfter way file words) (countsAfter way file words) name k ≡ record { refusal = 13; kind = 0; packet = 0 })
+    × (valuePart (lentAfter way file words) (countsAfter way file words) name k ≡ [])
+    × (valueSpan (lentAfter way file words) (countsAfter way file words) name k ≡ record { start = 0; end = 0 }))
 
 -- what lies between the offsets of a value is its part, of any file, tables, counts and numbers
 abbrev pub SpanPart : Type 0

@@ -1,11 +1,12 @@
 -- What an answer tells of the outcome. Reading's answer decides that of writing, with the length of the plain form; and from that answer follow the tables and the output. What is written of a reading is
--- said for any row that is made of its tokens: writing has the row itself, and converting that of the other layout.
+-- said for any row that is made of its tokens: writing has the row itself, converting that of the other layout, and dropping header stops that without them.
 use mathlib.Core.Path.{_≡_, refl, sym, _∙_, ap, subst}
+use mathlib.Core.Bool.{Bool, true, false, cond}
 use mathlib.Core.List.{List, _++_}
 use Prim.Native.Nat.{ℕ, _-_, _≤_, _<_}
 use native.Mathlib.Nat.{sub-zero}
 use native.Mathlib.Omega.{arith}
-use borrow.Author.Tests.{leb-true, le-leb, lt-leb}
+use borrow.Author.Tests.{leb-true}
 use lib.Dec.{leb}
 use lib.ListN.{length, replicate}
 use Rattle.star_text.specs.Outcome.{refused, accepted, then, need}
@@ -20,9 +21,9 @@ use Rattle.star_lex.specs.Holds.{fileTokens}
 use Rattle.star_read.specs.Read.{FileRows, ReadOutcome, Sizes, tokensOnly, readIn, readOf}
 use Rattle.star_read.specs.Answer.{readAnswer, readingOf, Tables, Leaves}
 use Rattle.star_read.specs.declared.Answer.{Answer}
-use Rattle.star_read.proofs.Accepted.{number-in, accepted-in, answer-refused, tokens-are}
+use Rattle.star_read.proofs.Accepted.{number-in, answer-rows, answer-refused, tokens-are}
 use Rattle.star_write.specs.Write.{Writing, written, plainFits, writeOf, writeIn}
-use Rattle.star_write.specs.Answer.{bytesOf, outputOf, writeAnswer, Writes, WritesIn}
+use Rattle.star_write.specs.Answer.{bytesOf, outputOf, writeAnswer, counted, fittedAnswer, Writes, WritesIn}
 use Rattle.star_write.specs.declared.Written.{Written}
 
 -- what is written after reading: the plain form of a row that is made of the tokens
@@ -63,50 +64,27 @@ pub writes-today : (file : List ℕ) (before after : Tables) (room out : List �
 unfolding writeIn writeOf readIn layoutRules need
 writes-today file before after room out r w = w
 
--- the answer of a written file by reading's counts and the size
-abbrev pub counted : ℕ → Answer → Written
-counted size r = record {
-  refusal = 0;
-  place = 0;
-  length = size;
-  tokens = r .tokens;
-  sets = r .sets;
-  names = r .names;
-  packets = r .packets;
-  values = r .values;
-}
+-- what is answered after reading's answer, where the plain form of a row that is made of the tokens is this
+module _ (o : ReadOutcome) (row : List Token → List Token) (plain : List ℕ) (is : (ps : List Placed) (rows : Rows) → o ≡ accepted (ps, rows) → plainOf (row (tokensOnly ps)) ≡ plain)
+    (r : Answer) (e : r ≡ readAnswer o) (room : ℕ) where
+  pub refuses-by : (r .refusal ≡ 0 → ⊥) → writingBy o row room ≡ refused (r .refusal) (r .place)
+  unfolding then
+  refuses-by f = rw (answer-refused o r e f)
 
--- what is answered after reading's answer
-module _ (layout : ℕ) (file : List ℕ) (words : Sizes) (r : Answer) (e : r ≡ readAnswer (readIn layout file words)) where
-  pub refuses-reading : (room : ℕ) → (r .refusal ≡ 0 → ⊥) → writeIn layout file words room ≡ refused (r .refusal) (r .place)
-  unfolding writeIn then
-  refuses-reading room f = rw (answer-refused (readIn layout file words) r e f)
-
-  module _ (room : ℕ) (z : r .refusal ≡ 0) where
-    accepts : (ps : List Placed) × (rows : Rows) × (readIn layout file words ≡ accepted (ps, rows))
-    accepts = accepted-in layout file words r e z
-
-    after-reading : writeIn layout file words room ≡ plainFits room (accepts .0, accepts .1) (plainOf (fileTokens file))
-    unfolding writeIn then
-    after-reading =
-        ap (λ u. writingBy u (λ ts. ts) room) (accepts .2)
-        ∙ ap (λ ts. plainFits room (accepts .0, accepts .1) (plainOf ts)) (tokens-are layout file words (accepts .0) (accepts .1) (accepts .2))
-
-    pub too-long : mostBytes < length (plainOf (fileTokens file)) → writeIn layout file words room ≡ refused 1 0
-    unfolding plainFits need
-    too-long h = rw (after-reading, lt-leb _ _ h)
-
-    pub too-short : length (plainOf (fileTokens file)) ≤ mostBytes → room < length (plainOf (fileTokens file)) → writeIn layout file words room ≡ refused 7 6
-    unfolding plainFits need
-    too-short h k = rw (after-reading, le-leb _ _ h, lt-leb _ _ k)
-
-    pub fits-output : length (plainOf (fileTokens file)) ≤ mostBytes → length (plainOf (fileTokens file)) ≤ room
-        → counted (length (plainOf (fileTokens file))) r ≡ writeAnswer (writeIn layout file words room)
-    unfolding plainFits need writeAnswer readingOf bytesOf readAnswer
-    fits-output h k =
-        let w : writeIn layout file words room ≡ written (accepts .0) (accepts .1) (plainOf (fileTokens file))
-        = rw (after-reading, le-leb _ _ h, le-leb _ _ k) in
-        ap (counted (length (plainOf (fileTokens file)))) (e ∙ ap readAnswer (accepts .2)) ∙ sym (ap writeAnswer w)
+  pub fitted-by : NotZero o → r .refusal ≡ 0 → fittedAnswer r (length plain) room ≡ writeAnswer (writingBy o row room)
+  unfolding then plainFits need fittedAnswer writeAnswer readingOf bytesOf readAnswer
+  fitted-by f z =
+      let a : (ps : List Placed) × (rows : Rows) × (o ≡ accepted (ps, rows)) = answer-rows o f r e z in
+      let w : writingBy o row room ≡ plainFits room (a .0, a .1) plain
+      = ap (λ u. writingBy u row room) (a .2) ∙ ap (plainFits room (a .0, a .1)) (is (a .0) (a .1) (a .2)) in
+      by (leb (length plain) mostBytes) (leb (length plain) room) (a .0) (a .1) (e ∙ ap readAnswer (a .2)) ∙ sym (ap writeAnswer w)
+    where
+      by : (small fits : Bool) (ps : List Placed) (rows : Rows) → r ≡ readAnswer (accepted (ps, rows))
+          → cond small (cond fits (counted (length plain) r) (writeAnswer (refused 7 6))) (writeAnswer (refused 1 0))
+          ≡ writeAnswer (need small 1 0 (need fits 7 6 (written ps rows plain)))
+      by true true ps rows q = ap (counted (length plain)) q
+      by true false ps rows q = refl
+      by false fits ps rows q = refl
 
 -- an answer of another number: the outcome is that refusal
 pub writing-refused : (o : Writing) (a : Written) → a ≡ writeAnswer o → (a .refusal ≡ 0 → ⊥) → o ≡ refused (a .refusal) (a .place)
@@ -126,26 +104,26 @@ writing-number o row room f n place e z =
     (λ s k. need-refused _ 7 6 _ n place k (λ r w. impossible cc) (λ r m i. omega arith)) (λ s m i. omega arith))
 
 -- an answer of refusal 0: the plain form is written
-pub record Success (layout : ℕ) (file : List ℕ) (words : Sizes) (room : ℕ) (a : Written) : Type 0 where
+pub record SuccessBy (o : ReadOutcome) (row : List Token → List Token) (plain : List ℕ) (room : ℕ) (a : Written) : Type 0 where
   pub ps : List Placed
   pub rows : Rows
-  pub outcome : writeIn layout file words room ≡ written ps rows (plainOf (fileTokens file))
-  pub reads : readIn layout file words ≡ accepted (ps, rows)
+  pub outcome : writingBy o row room ≡ written ps rows plain
+  pub reads : o ≡ accepted (ps, rows)
   pub count : a .tokens ≡ length ps
-  pub size : a .length ≡ length (plainOf (fileTokens file))
+  pub size : a .length ≡ length plain
   pub fits : a .length ≤ room
 
-pub success : (layout : ℕ) (file : List ℕ) (words : Sizes) (room : ℕ) (a : Written) → a ≡ writeAnswer (writeIn layout file words room) → a .refusal ≡ 0
-    → Success layout file words room a
-unfolding writeIn writeAnswer readingOf bytesOf readAnswer
-success layout file words room a e z = go (writeIn layout file words room) refl e
+pub success-by : (o : ReadOutcome) (row : List Token → List Token) (plain : List ℕ) → ((ps : List Placed) (rows : Rows) → o ≡ accepted (ps, rows) → plainOf (row (tokensOnly ps)) ≡ plain)
+    → NotZero o → (room : ℕ) (a : Written) → a ≡ writeAnswer (writingBy o row room) → a .refusal ≡ 0 → SuccessBy o row plain room a
+unfolding writeAnswer readingOf bytesOf readAnswer
+success-by o row plain is f room a e z = go (writingBy o row room) refl e
   where
-    go : (w : Writing) → writeIn layout file words room ≡ w → a ≡ writeAnswer w → Success layout file words room a
-    go (refused n place) d h = absurd (writing-number (readIn layout file words) (λ ts. ts) room (number-in layout file words) n place d (sym (ap (λ t. t .refusal) h) ∙ z))
-    go (accepted ((ps, rows), plain)) d h =
-        let w : Wrote (readIn layout file words) (λ ts. ts) room ps rows plain = wrote-by (readIn layout file words) (λ ts. ts) room ps rows plain d in
-        let same : plain ≡ plainOf (fileTokens file) = sym (w .plain-is) ∙ ap plainOf (tokens-are layout file words ps rows (w .reads)) in
-        let long : a .length ≡ length plain = ap (λ t. t .length) h in
+    go : (w : Writing) → writingBy o row room ≡ w → a ≡ writeAnswer w → SuccessBy o row plain room a
+    go (refused n place) d h = absurd (writing-number o row room f n place d (sym (ap (λ t. t .refusal) h) ∙ z))
+    go (accepted ((ps, rows), bytes)) d h =
+        let w : Wrote o row room ps rows bytes = wrote-by o row room ps rows bytes d in
+        let same : bytes ≡ plain = sym (w .plain-is) ∙ is ps rows (w .reads) in
+        let long : a .length ≡ length bytes = ap (λ t. t .length) h in
         record {
           ps = ps;
           rows = rows;
@@ -155,6 +133,29 @@ success layout file words room a e z = go (writeIn layout file words room) refl 
           size = long ∙ ap length same;
           fits = omega (arith, w .fits);
         }
+
+-- in a layout
+pub record Success (layout : ℕ) (file : List ℕ) (words : Sizes) (room : ℕ) (a : Written) : Type 0 where
+  pub ps : List Placed
+  pub rows : Rows
+  pub outcome : writeIn layout file words room ≡ written ps rows (plainOf (fileTokens file))
+  pub reads : readIn layout file words ≡ accepted (ps, rows)
+  pub count : a .tokens ≡ length ps
+  pub size : a .length ≡ length (plainOf (fileTokens file))
+  pub fits : a .length ≤ room
+
+-- its plain form is that of the file's tokens
+pub plain-in : (layout : ℕ) (file : List ℕ) (words : Sizes) (ps : List Placed) (rows : Rows) → readIn layout file words ≡ accepted (ps, rows)
+    → plainOf (tokensOnly ps) ≡ plainOf (fileTokens file)
+plain-in layout file words ps rows e = ap plainOf (tokens-are layout file words ps rows e)
+
+pub success : (layout : ℕ) (file : List ℕ) (words : Sizes) (room : ℕ) (a : Written) → a ≡ writeAnswer (writeIn layout file words room) → a .refusal ≡ 0
+    → Success layout file words room a
+unfolding writeIn
+success layout file words room a e z =
+    let s : SuccessBy (readIn layout file words) (λ ts. ts) (plainOf (fileTokens file)) room a
+    = success-by (readIn layout file words) (λ ts. ts) (plainOf (fileTokens file)) (plain-in layout file words) (number-in layout file words) room a e z in
+    record { ps = s .ps; rows = s .rows; outcome = s .outcome; reads = s .reads; count = s .count; size = s .size; fits = s .fits }
 
 -- a list of so many zeros
 pub zeros : {xs : List ℕ} {m n : ℕ} → m ≡ n → xs ≡ replicate m 0 → xs ≡ replicate n 0
@@ -170,11 +171,19 @@ pub refused-output : (room : ℕ) {o : Writing} {n place : ℕ} {out : List ℕ}
 unfolding outputOf bytesOf
 refused-output room e z = zeros (sym (sub-zero room)) z ∙ sym (ap (λ o. outputOf o room) e)
 
+-- of any outcome that is written
+module _ {o : ReadOutcome} {w : Writing} {plain : List ℕ} {ps : List Placed} {rows : Rows} (reads : o ≡ accepted (ps, rows)) (outcome : w ≡ written ps rows plain) where
+  pub tables-by : {words : Sizes} {t : Tables} → Leaves o words t → Leaves (readingOf w) words t
+  unfolding readingOf
+  tables-by {words} {t} k = subst (λ u. Leaves u words t) (reads ∙ sym (ap readingOf outcome)) k
+
+  pub output-by : (room : ℕ) {size : ℕ} {out : List ℕ} → size ≡ length plain → out ≡ plain ++ replicate (room - size) 0 → out ≡ outputOf w room
+  unfolding outputOf bytesOf
+  output-by room e z = z ∙ ap (λ n. plain ++ replicate (room - n) 0) e ∙ sym (ap (λ w. outputOf w room) outcome)
+
 module _ {layout : ℕ} {file : List ℕ} {words : Sizes} {room : ℕ} {a : Written} (d : Success layout file words room a) where
   pub written-tables : {t : Tables} → Leaves (readIn layout file words) words t → Leaves (readingOf (writeIn layout file words room)) words t
-  unfolding readingOf
-  written-tables {t} k = subst (λ u. Leaves u words t) (d .reads ∙ sym (ap readingOf (d .outcome))) k
+  written-tables = tables-by (d .reads) (d .outcome)
 
   pub written-output : {out : List ℕ} → out ≡ plainOf (fileTokens file) ++ replicate (room - a .length) 0 → out ≡ outputOf (writeIn layout file words room) room
-  unfolding outputOf bytesOf
-  written-output z = z ∙ ap (λ n. plainOf (fileTokens file) ++ replicate (room - n) 0) (d .size) ∙ sym (ap (λ w. outputOf w room) (d .outcome))
+  written-output = output-by (d .reads) (d .outcome) room (d .size)

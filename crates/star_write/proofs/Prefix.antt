@@ -20,7 +20,7 @@ use Rattle.star_write.specs.Put.{tokenOf}
 abbrev pub plainFirst : ℕ → List Token → List ℕ
 plainFirst n ts = plainOf (take n ts)
 
-plain-one : (t : Token) → plainOf (t ∷ []) ≡ plainToken today t
+pub plain-one : (t : Token) → plainOf (t ∷ []) ≡ plainToken today t
 unfolding plainBy flatMap
 plain-one t = append-nil (plainToken today t)
 

@@ -14,7 +14,7 @@ ghost use Rattle.star_read.specs.Read.{Sizes, readIn};
 ghost use Rattle.star_text.specs.Outcome.{refused};
 ghost use Rattle.star_read.specs.Answer.{readAnswer, tables, sizes, Leaves};
 ghost use Rattle.star_write.specs.Write.{writeIn};
-ghost use Rattle.star_write.specs.Answer.{writeAnswer, Writes, WritesIn};
+ghost use Rattle.star_write.specs.Answer.{writeAnswer, fittedAnswer, Writes, WritesIn};
 
 // What writing answers: refusal and place, both 0 when written, the length of the plain form, and the number of rows of each table.
 #[repr(C)]
@@ -30,7 +30,7 @@ pub struct Written {
 }
 
 // A refusal: length and counts are 0.
-fn refusing(refusal: u32, place: u32) -> Written
+pub fn refusing(refusal: u32, place: u32) -> Written
     ensures { λ r. ⌜ r ≡ writeAnswer (refused refusal place) ⌝ }
 {
     Written {
@@ -45,16 +45,10 @@ fn refusing(refusal: u32, place: u32) -> Written
     }
 }
 
-// What writing answers after reading has answered: refusal 1 if the plain form is too long, then 7 if the output is too short.
-fn answer(file: &[u8], tokens: &[u32], reading: Answer, room: usize) -> Written
-    requires { ⌜ (reading .refusal ≡ 0 → Holds (now file) (now tokens) (reading .tokens)) ⌝ }
-    ensures { λ r. ⌜ ((layout : ℕ) (words : Sizes) → reading ≡ readAnswer (readIn layout (now (file .entry)) words)
-        → r ≡ writeAnswer (writeIn layout (now (file .entry)) words room)) ⌝ }
+// What a call that writes answers after reading has accepted, where so many bytes are to be written: refusal 1 if they are too many, then 7 if the output is too short.
+pub fn fitted(reading: Answer, size: usize, room: usize) -> Written
+    ensures { λ r. ⌜ r ≡ fittedAnswer reading size room ⌝ }
 {
-    if reading.refusal != 0 {
-        return refusing(reading.refusal, reading.place);
-    }
-    let size = plain::plain_length(file, tokens, reading.tokens as usize);
     if size > star_text::MOST_BYTES {
         return refusing(1, 0);
     }
@@ -73,8 +67,21 @@ fn answer(file: &[u8], tokens: &[u32], reading: Answer, room: usize) -> Written
     }
 }
 
+// What writing answers after reading has answered.
+fn answer(file: &[u8], tokens: &[u32], reading: Answer, room: usize) -> Written
+    requires { ⌜ (reading .refusal ≡ 0 → Holds (now file) (now tokens) (reading .tokens)) ⌝ }
+    ensures { λ r. ⌜ ((layout : ℕ) (words : Sizes) → reading ≡ readAnswer (readIn layout (now (file .entry)) words)
+        → r ≡ writeAnswer (writeIn layout (now (file .entry)) words room)) ⌝ }
+{
+    if reading.refusal != 0 {
+        return refusing(reading.refusal, reading.place);
+    }
+    let size = plain::plain_length(file, tokens, reading.tokens as usize);
+    fitted(reading, size, room)
+}
+
 // Sets every word of the five tables and every byte of the output to 0, as every refusal leaves them.
-fn clear_all(
+pub fn clear_all(
     tokens: &mut [u32],
     sets: &mut [u32],
     names: &mut [u32],

@@ -6,6 +6,7 @@ pub mod indexes;
 pub mod layouts;
 pub mod numbers;
 pub mod pairs;
+pub mod stops;
 pub mod twins;
 
 use std::collections::HashSet;
@@ -205,6 +206,8 @@ struct Builder<'r> {
     size: usize,
     /// How many bytes a name or code may have.
     longest: usize,
+    /// Whether headers may have header stops.
+    stops: bool,
 }
 
 impl Builder<'_> {
@@ -280,9 +283,10 @@ impl Builder<'_> {
                 self.unique("_", names);
             }
         }
-        let stops = if self.rng.once_in(2) { 0 } else { self.rng.below(depth) };
-        for _ in 0..stops {
-            self.word("stop_");
+        if self.stops {
+            for _ in 0..stops::count(self.rng, depth) {
+                self.word("stop_");
+            }
         }
         for _ in 0..self.rng.between(1, 4) {
             self.packet(&levels);
@@ -306,10 +310,20 @@ impl Builder<'_> {
     }
 }
 
+/// The tokens of an accepted file.
 fn pieces(rng: &mut Rng) -> Vec<Piece> {
+    built(rng, false)
+}
+
+/// The tokens of an old file, which may have header stops.
+fn old_pieces(rng: &mut Rng) -> Vec<Piece> {
+    built(rng, true)
+}
+
+fn built(rng: &mut Rng, stops: bool) -> Vec<Piece> {
     let size = rng.pick(&[10, 30, 100, 300]);
     let longest = rng.pick(&[OLD_NAME_BYTES, OLD_NAME_BYTES, OLD_NAME_BYTES + 1, MOST_NAME_BYTES]);
-    let mut builder = Builder { rng, pieces: Vec::new(), size, longest };
+    let mut builder = Builder { rng, pieces: Vec::new(), size, longest, stops };
     builder.file();
     builder.pieces
 }
@@ -387,9 +401,15 @@ pub fn valid(rng: &mut Rng) -> Vec<u8> {
     laid_out(rng, &pieces)
 }
 
-/// A valid file with a few tokens or bytes changed.
+/// A file that was accepted before header stops were retired.
+pub fn old(rng: &mut Rng) -> Vec<u8> {
+    let pieces = old_pieces(rng);
+    laid_out(rng, &pieces)
+}
+
+/// A valid or old file with a few tokens or bytes changed.
 pub fn damaged(rng: &mut Rng) -> Vec<u8> {
-    let mut pieces = pieces(rng);
+    let mut pieces = if rng.once_in(4) { old_pieces(rng) } else { pieces(rng) };
     if rng.once_in(2) {
         for _ in 0..rng.between(1, 2) {
             damage_tokens(rng, &mut pieces);
@@ -523,12 +543,14 @@ pub fn bytes(rng: &mut Rng) -> Vec<u8> {
     file
 }
 
-/// A file of any sort: accepted, damaged, of tokens or bytes without order.
+/// A file of any sort: accepted, now or before header stops were retired, damaged, of
+/// tokens or bytes without order.
 pub fn any(rng: &mut Rng) -> Vec<u8> {
-    match rng.below(8) {
-        0 | 1 => valid(rng),
-        2..=4 => damaged(rng),
-        5 | 6 => soup(rng),
+    match rng.below(16) {
+        0..=2 => valid(rng),
+        3 => old(rng),
+        4..=9 => damaged(rng),
+        10..=13 => soup(rng),
         _ => bytes(rng),
     }
 }

@@ -98,6 +98,14 @@ fn vector(line: usize, text: &str) -> Vector {
     vector
 }
 
+/// The vectors of a list of old files whose header stops are dropped; its first line says
+/// how it is written. The tables are of the old file, and the plain form is that without
+/// the header stops.
+pub fn dropped_vectors(list: &str) -> Vec<Vector> {
+    let lines = list.lines().enumerate().skip(1);
+    lines.map(|(at, line)| vector(at + 1, line)).collect()
+}
+
 /// A file, the layout that it is read in, and the answers that are expected for it.
 #[derive(Clone, Debug)]
 pub struct LayoutVector {

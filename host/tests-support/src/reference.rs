@@ -18,7 +18,7 @@ use crate::{MOST_BYTES, MOST_NAME_BYTES, OLD_NAME_BYTES, WIDTHS};
 /// A refusal's number and place.
 #[derive(Clone, Copy, Debug, PartialEq, Eq)]
 pub struct Refusal {
-    /// Its number, 1 to 15.
+    /// Its number, 1 to 16.
     pub number: u32,
     /// Its place.
     pub place: usize,
@@ -265,11 +265,13 @@ pub struct Rows {
     pub values: Vec<[u32; 4]>,
     /// The token rows that close save frames.
     pub frame_ends: Vec<u32>,
+    /// The token rows of header stops.
+    pub header_stops: Vec<u32>,
 }
 
-/// The rows of a file's tokens by a layout, or the first of refusals 8 to 11.
-pub fn rows(file: &[u8], tokens: &[Token], layout: Layout) -> Result<Rows, Refusal> {
-    let mut parser = Parser { file, tokens, layout, next: 0, loops: 0, rows: Rows::default() };
+/// The rows of a file's tokens by these rules, or the first of refusals 8 to 11 and 16.
+pub fn rows(file: &[u8], tokens: &[Token], rules: Rules) -> Result<Rows, Refusal> {
+    let mut parser = Parser { file, tokens, rules, next: 0, loops: 0, rows: Rows::default() };
     let mut codes = HashSet::new();
     loop {
         let (kind, heading) = match parser.kind() {
@@ -303,7 +305,7 @@ type Contents<'a> = HashSet<Content<'a>>;
 struct Parser<'a> {
     file: &'a [u8],
     tokens: &'a [Token],
-    layout: Layout,
+    rules: Rules,
     /// Tokens taken so far; the row of the last one.
     next: usize,
     loops: u32,
@@ -367,7 +369,8 @@ impl<'a> Parser<'a> {
     }
 
     /// A heading, items and loops, and what closes a frame in the layout. A loop takes the
-    /// `stop_` of its header and of its inner levels before one can close the frame.
+    /// `stop_` of its inner levels, and takes or refuses that of its header, before one can
+    /// close the frame.
     fn frame(&mut self, block: u32, frame_codes: &mut Contents<'a>) -> Result<(), Refusal> {
         let heading = self.take_unique(frame_codes)?;
         self.rows.sets.push([2, heading, block]);
@@ -377,7 +380,7 @@ impl<'a> Parser<'a> {
             match self.kind() {
                 6 => self.item(set, &mut names)?,
                 4 => self.data_loop(set, &mut names)?,
-                kind if kind == self.layout.frame_end() => {
+                kind if kind == self.rules.layout.frame_end() => {
                     let end = self.take();
                     self.rows.frame_ends.push(end);
                     return Ok(());
@@ -399,7 +402,7 @@ impl<'a> Parser<'a> {
         Ok(())
     }
 
-    /// Names of one level and more, header stops, and packets.
+    /// Names of one level and more, header stops where the rules have them, and packets.
     fn data_loop(&mut self, set: u32, names: &mut Contents<'a>) -> Result<(), Refusal> {
         self.loops += 1;
         let number = self.loops;
@@ -423,7 +426,11 @@ impl<'a> Parser<'a> {
         }
         for _inner in 1..levels.len() {
             if self.kind() == 5 {
-                self.take();
+                if !self.rules.header_stops {
+                    return self.refuse(16);
+                }
+                let stop = self.take();
+                self.rows.header_stops.push(stop);
             }
         }
         if !self.value_comes() {
@@ -470,16 +477,26 @@ impl<'a> Parser<'a> {
 
 // -------------------------------------------------------------- reading
 
-/// The rules by which a file is read: its layout, and the limit of names and codes.
+/// The rules by which a file is read.
 #[derive(Clone, Copy, Debug)]
-struct Rules {
-    layout: Layout,
-    longest: usize,
+pub struct Rules {
+    /// What closes a save frame.
+    pub layout: Layout,
+    /// The limit of names and codes.
+    pub longest: usize,
+    /// Whether `stop_` may follow the names of a loop, at most once for each inner level;
+    /// else the first of them is refused.
+    pub header_stops: bool,
 }
 
 /// Today's rules for a file of this layout.
-fn rules(layout: Layout) -> Rules {
-    Rules { layout, longest: MOST_NAME_BYTES }
+pub fn rules(layout: Layout) -> Rules {
+    Rules { layout, longest: MOST_NAME_BYTES, header_stops: false }
+}
+
+/// The rules for old files, of today's layout and with header stops.
+pub fn old_rules() -> Rules {
+    Rules { header_stops: true, ..rules(Layout::Today) }
 }
 
 /// A file's tokens, none if it does not split into them, and its rows or the
@@ -490,7 +507,7 @@ fn parsed(file: &[u8], rules: Rules) -> (Vec<Token>, Result<Rows, Refusal>) {
     }
     match tokens_within(file, rules.longest) {
         Ok(tokens) => {
-            let rows = rows(file, &tokens, rules.layout);
+            let rows = rows(file, &tokens, rules);
             (tokens, rows)
         }
         Err(refusal) => (Vec::new(), Err(refusal)),
@@ -505,7 +522,12 @@ pub fn words_needed(file: &[u8]) -> [usize; 5] {
 
 /// As `words_needed`, for a file of this layout.
 pub fn words_needed_as(file: &[u8], layout: Layout) -> [usize; 5] {
-    match parsed(file, rules(layout)) {
+    words_needed_by(file, rules(layout))
+}
+
+/// As `words_needed`, for a file that is read by these rules.
+pub fn words_needed_by(file: &[u8], rules: Rules) -> [usize; 5] {
+    match parsed(file, rules) {
         (tokens, Ok(rows)) => words(&tokens, &rows).map(|table| table.len()),
         (tokens, Err(_)) => [3 * tokens.len(), 0, 0, 0, 0],
     }
@@ -523,10 +545,11 @@ fn words(tokens: &[Token], rows: &Rows) -> [Vec<u32>; 5] {
 }
 
 /// What is made of an accepted file: its tokens, the token rows that close save frames,
-/// and its tables without room to spare.
+/// those of header stops, and its tables without room to spare.
 struct Accepted {
     tokens: Vec<Token>,
     frame_ends: Vec<u32>,
+    header_stops: Vec<u32>,
     tables: [Vec<u32>; 5],
 }
 
@@ -541,7 +564,10 @@ fn reading(file: &[u8], room: [usize; 5], rules: Rules) -> Result<Accepted, Refu
     let tables = words(&tokens, &rows);
     match (1..5).find(|&table| tables[table].len() > room[table]) {
         Some(table) => Err(too_short(table)),
-        None => Ok(Accepted { tokens, frame_ends: rows.frame_ends, tables }),
+        None => {
+            let Rows { frame_ends, header_stops, .. } = rows;
+            Ok(Accepted { tokens, frame_ends, header_stops, tables })
+        }
     }
 }
 
@@ -559,6 +585,11 @@ pub fn read(file: &[u8], room: [usize; 5]) -> (Reading, [Vec<u32>; 5]) {
 /// As `read`, for a file of the layout with this number.
 pub fn read_as(file: &[u8], layout: u32, room: [usize; 5]) -> (Reading, [Vec<u32>; 5]) {
     answered(layout_of(layout).and_then(|layout| reading(file, room, rules(layout))), room)
+}
+
+/// Reads a file of today's layout by the rules for old files, which have header stops.
+pub fn read_with_header_stops(file: &[u8], room: [usize; 5]) -> (Reading, [Vec<u32>; 5]) {
+    answered(reading(file, room, old_rules()), room)
 }
 
 /// Reads a file as `read` did before the limit of names and codes was raised.
@@ -663,9 +694,38 @@ pub fn convert(
     out: usize,
 ) -> (Written, [Vec<u32>; 5], Vec<u8>) {
     let plain = layout_of(layout).and_then(|layout| {
-        let Accepted { tokens, frame_ends, tables } = reading(file, room, rules(layout))?;
+        let Accepted { tokens, frame_ends, tables, .. } = reading(file, room, rules(layout))?;
         let word = layout.other().frame_end_word();
         Ok((plain_form_closed(file, &tokens, &frame_ends, word), tables))
+    });
+    written(plain, room, out)
+}
+
+/// The tokens without those of these rows, which stand in file order.
+fn without(tokens: &[Token], rows: &[u32]) -> Vec<Token> {
+    let numbered = tokens.iter().zip(1u32..);
+    let kept = numbered.filter(|(_, row)| rows.binary_search(row).is_err());
+    kept.map(|(token, _)| *token).collect()
+}
+
+/// The plain form of an old file without its header stops, however long; none if it is
+/// refused whatever the room.
+pub fn plain_form_dropped(file: &[u8]) -> Option<Vec<u8>> {
+    let (tokens, rows) = parsed(file, old_rules());
+    Some(plain_form(file, &without(&tokens, &rows.ok()?.header_stops)))
+}
+
+/// Reads a file by the rules for old files and writes its plain form without the header
+/// stops: as `write`. The tables are those of the old file.
+pub fn drop_header_stops(
+    file: &[u8],
+    room: [usize; 5],
+    out: usize,
+) -> (Written, [Vec<u32>; 5], Vec<u8>) {
+    let plain = reading(file, room, old_rules()).map(|read| {
+        let kept = without(&read.tokens, &read.header_stops);
+        // choice: 1 and 7 at 6 are about the form without the header stops
+        (plain_form(file, &kept), read.tables)
     });
     written(plain, room, out)
 }
@@ -880,8 +940,8 @@ pub fn value_number(
 mod tests {
     use super::*;
     use crate::notation::{
-        checked_vectors, escaped, layout_vectors, name_vectors, unescaped, vectors, LayoutVector,
-        NameVector, Vector,
+        checked_vectors, dropped_vectors, escaped, layout_vectors, name_vectors, unescaped,
+        vectors, LayoutVector, NameVector, Vector,
     };
 
     const ROOM: [usize; 5] = [600; 5];
@@ -896,12 +956,37 @@ mod tests {
         }
     }
 
+    /// As `answer`, by the rules for old files.
+    fn old_answer(file: &[u8]) -> Result<[u32; 5], (u32, u32)> {
+        let room = words_needed_by(file, old_rules()).map(|words| words + 1);
+        let (answer, _) = read_with_header_stops(file, room);
+        match answer.refusal {
+            0 => Ok([answer.tokens, answer.sets, answer.names, answer.packets, answer.values]),
+            number => Err((number, answer.place)),
+        }
+    }
+
     #[test]
     fn vectors_are_answered() {
         answer_vectors("base.txt", include_str!("../../vectors/base.txt"), 130);
         answer_vectors("102.txt", include_str!("../../vectors/102.txt"), 30);
         answer_vectors("105.txt", include_str!("../../vectors/105.txt"), 38);
         answer_vectors("106.txt", include_str!("../../vectors/106.txt"), 9);
+        answer_vectors("109.txt", include_str!("../../vectors/109.txt"), 16);
+    }
+
+    #[test]
+    fn vectors_of_dropped_header_stops_are_answered() {
+        let list = dropped_vectors(include_str!("../../vectors/109-dropped.txt"));
+        assert_eq!(list.len(), 16);
+        for vector in list {
+            let shown = format!("line {}: {}", vector.line, escaped(&vector.file));
+            let read = read_with_header_stops(&vector.file, ROOM);
+            answer_vector(&vector, read, drop_header_stops(&vector.file, ROOM, 900), &shown);
+            if vector.refusal == 0 {
+                assert_eq!(plain_form_dropped(&vector.file).as_ref(), Some(&vector.plain));
+            }
+        }
     }
 
     #[test]
@@ -909,7 +994,11 @@ mod tests {
         let list = name_vectors(include_str!("../../vectors/105-names.txt"));
         assert_eq!(list.len(), 252);
         for NameVector { line, file, set, name, answer } in list {
-            let (reading, tables) = read(&file, ROOM);
+            let (reading, tables) = match read(&file, ROOM) {
+                // an old file: the lookup is in the tables of its own reading
+                (reading, _) if reading.refusal == 16 => read_with_header_stops(&file, ROOM),
+                read => read,
+            };
             let found = find_name(&file, Tables::of(&tables), reading.counts(), set, &name);
             assert_eq!(found, answer, "line {line}: {} {set}", escaped(&file));
         }
@@ -993,8 +1082,8 @@ mod tests {
             ("data_a save_f loop_ _x loop_ _y 1 2 stop_ stop_", (8, 42), ok),
             ("data_a save_f loop_ _x loop_ _y 1 2 stop_", (8, 41), (8, 41)),
             ("data_a save_f loop_ _x loop_ _y 1 2 stop_ save_", ok, (8, 42)),
-            ("data_a save_f loop_ _x loop_ _y stop_ 1 stop_ stop_", (8, 46), ok),
-            ("data_a save_f loop_ _x loop_ _y stop_", (8, 37), (8, 37)),
+            ("data_a save_f loop_ _x loop_ _y stop_ 1 stop_ stop_", (16, 32), (16, 32)),
+            ("data_a save_f loop_ _x loop_ _y stop_", (16, 32), (16, 32)),
             ("data_a save_f loop_ _x stop_", (8, 23), (8, 23)),
             ("data_a save_f loop_ stop_", (8, 20), (8, 20)),
             ("data_a save_f _x stop_", (8, 17), (8, 17)),
@@ -1063,6 +1152,92 @@ mod tests {
             let file = [head.as_slice(), &vec![b'v'; bytes - head.len()]].concat();
             assert_eq!(convert(&file, 1, ROOM, 2 * MOST_BYTES).0.refusal, refusal);
             assert_eq!(convert(&file, 1, ROOM, 0).0.refusal, if refusal == 1 { 1 } else { 7 });
+        }
+    }
+
+    /// Where a header stop is refused today, and what the rules for old files give there.
+    #[test]
+    fn known_header_stops_are_retired() {
+        // refusal and place of today's rules, in both layouts, and of the old ones
+        let ok = (0, 0);
+        for (file, today, old) in [
+            ("data_a loop_ _x loop_ _y stop_ 1 stop_", (16, 25), ok),
+            ("data_a loop_ _x loop_ _y stop_ 1 2 stop_ 3 stop_", (16, 25), ok),
+            ("data_a loop_ _x loop_ _y loop_ _z stop_ stop_ 1 stop_", (16, 34), ok),
+            ("global_ loop_ _x loop_ _y stop_ 1 stop_ global_", (16, 26), ok),
+            ("data_a loop_ _x 1 loop_ _y loop_ _z stop_ 1 stop_", (16, 36), ok),
+            // what follows does not matter
+            ("data_a loop_ _x loop_ _y stop_", (16, 25), (8, 30)),
+            ("data_a loop_ _x loop_ _y stop_ stop_ 1 stop_", (16, 25), (8, 31)),
+            ("data_a loop_ _x loop_ _y stop_ _z 1 stop_", (16, 25), (8, 31)),
+            ("data_a loop_ _x loop_ _y stop_ _x 1 stop_", (16, 25), (8, 31)),
+            ("data_a loop_ _x loop_ _y stop_ loop_ _z", (16, 25), (8, 31)),
+            ("data_a loop_ _x loop_ _y stop_ data_a", (16, 25), (8, 31)),
+            ("data_a loop_ _x loop_ _y stop_ 1", (16, 25), (10, 32)),
+            ("data_a loop_ _x _w loop_ _y stop_ 1 stop_", (16, 28), (10, 36)),
+            ("data_a loop_ _x loop_ _y stop_ 1 stop_ _x 2", (16, 25), (9, 39)),
+            // what stands before it comes first
+            ("data_a loop_ _x loop_ _x stop_ 1 stop_", (9, 22), (9, 22)),
+            ("data_a _y 1 loop_ _x loop_ _y stop_ 1 stop_", (9, 27), (9, 27)),
+            ("data_a data_a loop_ _x loop_ _y stop_ 1 stop_", (9, 7), (9, 7)),
+            ("data_a loop_ _x _w 1 loop_ _y loop_ _z stop_", (10, 21), (10, 21)),
+            // no header stop: one level, no name of the innermost, no header
+            ("data_a loop_ stop_", (8, 13), (8, 13)),
+            ("data_a loop_ _x stop_ 1", (8, 16), (8, 16)),
+            ("data_a loop_ _x stop_ loop_ _y 1 stop_", (8, 16), (8, 16)),
+            ("data_a loop_ _x loop_ stop_", (8, 22), (8, 22)),
+            ("data_a loop_ _x loop_ _y loop_ stop_ _z 1", (8, 31), (8, 31)),
+            ("data_a _x stop_", (8, 10), (8, 10)),
+        ] {
+            let bytes = file.as_bytes();
+            let answered = |answer: Result<[u32; 5], (u32, u32)>| answer.err().unwrap_or((0, 0));
+            assert_eq!((answered(answer(bytes)), answered(old_answer(bytes))), (today, old));
+            let of_1991 = read_as(bytes, 1, words_needed_as(bytes, Layout::Of1991)).0;
+            assert_eq!((of_1991.refusal, of_1991.place), today, "{file}");
+        }
+    }
+
+    /// The call for old files has the writer's refusals, about the form without the header
+    /// stops, and leaves the tables of the old file.
+    #[test]
+    fn dropping_is_refused_as_writing_is() {
+        let file = b"data_a loop_ _x loop_ _y stop_ 1 2 stop_ # c";
+        let plain = b"data_a\nloop_\n_x\nloop_\n_y\n1\n2\nstop_\n";
+        let room = words_needed_by(file, old_rules());
+        assert_eq!(room, [27, 3, 8, 6, 8]);
+        let (written, tables, out) = drop_header_stops(file, room, plain.len());
+        assert_eq!((written.refusal, out.as_slice()), (0, plain.as_slice()));
+        assert_eq!((written.reading(), tables), read_with_header_stops(file, room));
+        assert_eq!(written.tokens, 9);
+        let (written, tables, out) = drop_header_stops(file, room, plain.len() - 1);
+        assert_eq!(written, Written { refusal: 7, place: 6, ..Written::default() });
+        assert!(tables.iter().flatten().all(|&word| word == 0));
+        assert!(out.iter().all(|&byte| byte == 0));
+        for table in 0..5 {
+            let mut short = room;
+            short[table] -= 1;
+            let (written, ..) = drop_header_stops(file, short, 900);
+            assert_eq!((written.refusal, written.place), (7, table as u32 + 1));
+        }
+        // a plain form that is over the limit with the header stop alone, and one over it
+        // without, 1 before 7 at 6
+        let head = b"data_a loop_ _x loop_ _y stop_ ";
+        let tail = b" stop_\n";
+        for (bytes, refusal) in [(MOST_BYTES, 0), (MOST_BYTES + 6, 0), (MOST_BYTES + 7, 1)] {
+            // each `;` takes three bytes in the plain form and two here
+            let words = (bytes - head.len() - tail.len()) / 4;
+            let value = vec![b'v'; bytes - head.len() - tail.len() - 3 * words];
+            let file = [head.as_slice(), &value, &b" ;".repeat(words), tail].concat();
+            assert!(file.len() <= MOST_BYTES);
+            let room = words_needed_by(&file, old_rules());
+            let tokens = tokens(&file).expect("it splits");
+            assert_eq!(plain_form(&file, &tokens).len(), bytes);
+            assert_eq!(plain_form_dropped(&file).map(|plain| plain.len()), Some(bytes - 6));
+            assert_eq!(drop_header_stops(&file, room, 2 * MOST_BYTES).0.refusal, refusal);
+            assert_eq!(
+                drop_header_stops(&file, room, 0).0.refusal,
+                if refusal == 1 { 1 } else { 7 }
+            );
         }
     }
 
@@ -1226,7 +1401,9 @@ mod tests {
         let place = levels(8).len() as u32 + 1;
         assert_eq!(answer((levels(9) + " 1").as_bytes()), Err((11, place)));
         // a ninth `loop_` that would not be allowed in any case
-        assert_eq!(answer((levels(8) + " stop_ loop_").as_bytes()), Err((8, place + 6)));
+        let stopped = levels(8) + " stop_ loop_";
+        assert_eq!(answer(stopped.as_bytes()), Err((16, place)));
+        assert_eq!(old_answer(stopped.as_bytes()), Err((8, place + 6)));
         assert_eq!(answer((levels(7) + " loop_ loop_").as_bytes()), Err((8, place - 3)));
     }
 

@@ -4,7 +4,7 @@ use tackturnel::{raw, star, Counts, Reading, TablesMut, Written};
 use tackturnel_tests_support::generate::{Handed, Rng};
 use tackturnel_tests_support::reference::{self, Layout};
 
-use super::{junk_words, lend_mut, lent_bytes, Differences, TABLES};
+use super::{junk_words, lend_mut, lent_bytes, written_into, Differences, TABLES};
 
 /// Both layouts.
 pub const LAYOUTS: [u32; 2] = [raw::STAR_LAYOUT_TODAY, raw::STAR_LAYOUT_1991];
@@ -53,22 +53,11 @@ pub fn convert_into(
     room: [usize; 5],
     out_length: usize,
 ) -> Result<(Written, Vec<u8>), String> {
-    let rng = &mut Rng::new(seed);
-    let lent_file = lent_bytes(rng, file);
-    let mut tables = room.map(|length| junk_words(rng, length));
-    let junk: Vec<u8> = (0..out_length).map(|_| rng.number() as u8 | 1).collect();
-    let mut out = lent_bytes(rng, &junk);
-    let answer = star::convert(lent_file.range(), layout, lend_mut(&mut tables), out.range_mut());
-    let (expected, expected_tables, expected_out) =
-        reference::convert(file, layout, room, out_length);
-    let mut differences = Differences::default();
-    let call = format!("converting layout {layout} into {room:?} words and {out_length} bytes");
-    differences.answer(&call, answer, expected);
-    differences.tables(&tables, &expected_tables);
-    differences.words("output", out.range(), &expected_out);
-    differences.guards("output", &out);
-    differences.unchanged("file", &lent_file, file);
-    differences.end((expected, expected_out))
+    let expected = reference::convert(file, layout, room, out_length);
+    let call = format!("converting layout {layout}");
+    written_into(&call, seed, file, expected, |file, tables, out| {
+        star::convert(file, layout, tables, out)
+    })
 }
 
 /// A file of a layout and its tables as the library reads them; the counts are 0 where it

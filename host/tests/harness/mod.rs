@@ -5,6 +5,7 @@
 
 pub mod indexes;
 pub mod layouts;
+pub mod stops;
 
 use std::env;
 use std::fmt::{Debug, Write};
@@ -274,15 +275,30 @@ pub fn write_into(
     room: [usize; 5],
     out_length: usize,
 ) -> Result<(Written, Vec<u8>), String> {
+    let expected = reference::write(file, room, out_length);
+    written_into("writing", seed, file, expected, star::write)
+}
+
+/// Calls what reads a file and writes one by the library, where the answer and what is left
+/// in the tables and the output, of the same lengths, are to be these.
+fn written_into(
+    call: &str,
+    seed: u64,
+    file: &[u8],
+    expected: (Written, [Vec<u32>; 5], Vec<u8>),
+    write: impl Fn(&[u8], TablesMut<'_>, &mut [u8]) -> Written,
+) -> Result<(Written, Vec<u8>), String> {
+    let (expected, expected_tables, expected_out) = expected;
+    let room = expected_tables.each_ref().map(Vec::len);
+    let out_length = expected_out.len();
     let rng = &mut Rng::new(seed);
     let lent_file = lent_bytes(rng, file);
     let mut tables = room.map(|length| junk_words(rng, length));
     let junk: Vec<u8> = (0..out_length).map(|_| rng.number() as u8 | 1).collect();
     let mut out = lent_bytes(rng, &junk);
-    let answer = star::write(lent_file.range(), lend_mut(&mut tables), out.range_mut());
-    let (expected, expected_tables, expected_out) = reference::write(file, room, out_length);
+    let answer = write(lent_file.range(), lend_mut(&mut tables), out.range_mut());
     let mut differences = Differences::default();
-    let call = format!("writing into {room:?} words and {out_length} bytes");
+    let call = format!("{call} into {room:?} words and {out_length} bytes");
     differences.answer(&call, answer, expected);
     differences.tables(&tables, &expected_tables);
     differences.words("output", out.range(), &expected_out);
@@ -387,7 +403,7 @@ pub fn fits_into(seed: u64, file: &[u8], room: [usize; 5]) -> Result<Checked, St
 // ---------------------------------------------------------------- lookups
 
 /// How often each refusal was answered.
-pub type Tally = [u64; 16];
+pub type Tally = [u64; 17];
 
 /// A file and its tables as the reference reads them, with words to spare.
 pub fn handed(file: &[u8], spare: usize) -> Handed {

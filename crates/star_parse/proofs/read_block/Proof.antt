@@ -3,6 +3,7 @@ use mathlib.Core.Path.{_≡_, refl, _∙_}
 use Prim.Native.Nat.{_-_, _≤_}
 use native.Mathlib.Omega.{arith}
 use lib.ListN.{length}
+use Rattle.star_lex.specs.Rules.{today, atStops}
 use Rattle.star_grammar.specs.Machine.{inBlock, setOf, within}
 use Rattle.star_parse.specs.Parsed.{fourTables}
 use Rattle.star_parse.specs.Reader.{Bounds, Leads}
@@ -12,13 +13,13 @@ use Rattle.star_parse.proofs.read_block.Statement.{statement}
 use Rattle.star_parse.proofs.read_block.Tie as tie
 
 abbrev Inv-loop : tie.InvT-loop
-Inv-loop tokens count kind sets₀ names₀ packets₀ values₀ p₀ block sets names packets values p =
+Inv-loop tokens count kind sets₀ names₀ packets₀ values₀ stops p₀ block sets names packets values p =
     Bounds count tokens p × (p₀ .at ≤ p .at) × (length sets ≡ length sets₀) × (length names ≡ length names₀) × (length packets ≡ length packets₀)
     × (length values ≡ length values₀)
-    × Leads count tokens (within (inBlock block)) p₀ (fourTables sets₀ names₀ packets₀ values₀) (within (inBlock block)) p (fourTables sets names packets values)
+    × Leads (atStops today stops) count tokens (within (inBlock block)) p₀ (fourTables sets₀ names₀ packets₀ values₀) (within (inBlock block)) p (fourTables sets names packets values)
 
 abbrev μ-loop : tie.MeasureT-loop
-μ-loop tokens count kind sets₀ names₀ packets₀ values₀ p₀ block sets names packets values p = count - p .at
+μ-loop tokens count kind sets₀ names₀ packets₀ values₀ stops p₀ block sets names packets values p = count - p .at
 
 -- from where the entries are read: the turn and its test, the block's row, and the beginning
 abbrev test : tie.After-read-entries Inv-loop μ-loop → tie.Then1 Inv-loop μ-loop

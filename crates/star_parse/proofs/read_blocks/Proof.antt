@@ -3,7 +3,7 @@ use mathlib.Core.Path.{_≡_, refl, sym, ap, _∙_}
 use Prim.Native.Nat.{_-_}
 use native.Mathlib.Omega.{arith}
 use lib.ListN.{length, drop}
-use Rattle.star_lex.specs.Rules.{today}
+use Rattle.star_lex.specs.Rules.{today, atStops}
 use Rattle.star_grammar.specs.Tables.{noRows}
 use Rattle.star_grammar.specs.Machine.{start, run}
 use Rattle.star_parse.specs.Parsed.{kindTokens, fourTables}
@@ -17,13 +17,13 @@ use Rattle.star_parse.proofs.read_blocks.Statement.{statement}
 use Rattle.star_parse.proofs.read_blocks.Tie as tie
 
 abbrev Inv-loop : tie.InvT-loop
-Inv-loop tokens count sets₀ names₀ packets₀ values₀ p₀ sets names packets values p =
+Inv-loop tokens count sets₀ names₀ packets₀ values₀ stops p₀ sets names packets values p =
     Bounds count tokens p × (length sets ≡ length sets₀) × (length names ≡ length names₀) × (length packets ≡ length packets₀) × (length values ≡ length values₀)
-    × Comes (kindTokens count tokens) (fourTables sets₀ names₀ packets₀ values₀) (run today start (kindTokens count tokens) noRows) start p
+    × Comes (atStops today stops) (kindTokens count tokens) (fourTables sets₀ names₀ packets₀ values₀) (run (atStops today stops) start (kindTokens count tokens) noRows) start p
     (fourTables sets names packets values)
 
 abbrev μ-loop : tie.MeasureT-loop
-μ-loop tokens count sets₀ names₀ packets₀ values₀ p₀ sets names packets values p = count - p .at
+μ-loop tokens count sets₀ names₀ packets₀ values₀ stops p₀ sets names packets values p = count - p .at
 
 begin-requires : tie.Need-begin-requires Inv-loop μ-loop
 begin-requires c κs = tt
@@ -40,7 +40,7 @@ loop-holds c =
       comes _ _ _ (f .refusal) (record {
         rows = noRows;
         matches = matches-none _ _ f;
-        left = ap (λ n. run today start (drop n (kindTokens (s .args .count) (s .args .tokens .now))) noRows) (f .at);
+        left = ap (λ n. run (atStops today (s .args .stops)) start (drop n (kindTokens (s .args .count) (s .args .tokens .now))) noRows) (f .at);
         holds = between-none;
       }),
     )
@@ -102,7 +102,7 @@ returns-2 c =
     let none = headless _ (sym (c .before .before .block-kind .ensures) ∙ c .before .if3 .taken) in
     whole-refused _ _ _ _ (λ z. omega (arith, c .misplaced .ensures .refusal))
     (refused _ _ _ {to = start} {To = Between} 8 (omega arith) (l .inv .5 .goes (c .before .before .before .before .before .if1 .taken))
-    (start-refuses _ (λ h. c .before .before .before .if2 .left (e ∙ h)) (λ h. none .0 (e ∙ h)) (λ h. none .1 (e ∙ h))) (c .misplaced .ensures))
+    (start-refuses _ _ (λ h. c .before .before .before .if2 .left (e ∙ h)) (λ h. none .0 (e ∙ h)) (λ h. none .1 (e ∙ h))) (c .misplaced .ensures))
 
 read-block-requires : tie.Need-read-block-requires Inv-loop μ-loop
 read-block-requires c κs =

@@ -4,6 +4,7 @@ use mathlib.Core.List.{List}
 use Prim.Native.Nat.{ℕ, _-_, _≤_}
 use native.Mathlib.Omega.{arith}
 use lib.ListN.{length}
+use Rattle.star_lex.specs.Rules.{today, atStops}
 use Rattle.star_grammar.specs.Machine.{Where, setOf, within}
 use Rattle.star_parse.specs.Parsed.{fourTables}
 use Rattle.star_parse.specs.Reader.{Bounds, Leads}
@@ -13,13 +14,13 @@ use Rattle.star_parse.proofs.read_entries.Statement.{statement}
 use Rattle.star_parse.proofs.read_entries.Tie as tie
 
 abbrev Inv-loop : tie.InvT-loop
-Inv-loop tokens count set names₀ packets₀ values₀ p₀ names packets values p =
+Inv-loop tokens count set names₀ packets₀ values₀ stops p₀ names packets values p =
     Bounds count tokens p × (p₀ .at ≤ p .at) × (length names ≡ length names₀) × (length packets ≡ length packets₀) × (length values ≡ length values₀)
     × ((w : Where) (sets : List ℕ) → setOf w ≡ set
-    → Leads count tokens (within w) p₀ (fourTables sets names₀ packets₀ values₀) (within w) p (fourTables sets names packets values))
+    → Leads (atStops today stops) count tokens (within w) p₀ (fourTables sets names₀ packets₀ values₀) (within w) p (fourTables sets names packets values))
 
 abbrev μ-loop : tie.MeasureT-loop
-μ-loop tokens count set names₀ packets₀ values₀ p₀ names packets values p = count - p .at
+μ-loop tokens count set names₀ packets₀ values₀ stops p₀ names packets values p = count - p .at
 
 loop-holds : tie.Need-loop-holds Inv-loop μ-loop
 loop-holds c =
@@ -45,7 +46,7 @@ loop-again c =
       v .kept .1 .1 .1 .1 .0 ∙ l .inv .2,
       l .inv .3,
       v .kept .1 .1 .1 .1 .1 .0 ∙ l .inv .4,
-      λ w sets q before outcome a. v .ensures .goes w sets _ q before outcome (l .inv .5 w sets q before outcome a .goes (c .before .before .before .before .before .before .before .before .before .if1 .taken)),
+      λ w sets q before outcome a. v .ensures .goes _ w sets _ q before outcome (l .inv .5 w sets q before outcome a .goes (c .before .before .before .before .before .before .before .before .before .if1 .taken)),
     )
 
 read-loop-requires : tie.Need-read-loop-requires Inv-loop μ-loop

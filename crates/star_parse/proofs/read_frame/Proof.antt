@@ -124,7 +124,7 @@ returns-3 c =
           refused _ _ _ 8 (omega arith)
           (own .ensures .0 .goes (inFrame (s .args .block) (set .result .sets)) _ refl before outcome (over-frame _ _ _ a (s .pre .1 .is) (set .ensures)) .goes
           (c .before .before .before .if1 .left))
-          (frame-refuses (s .args .block) (set .result .sets) _ (λ h. c .before .if2 .left (e ∙ h)) (none .loop) (none .name)) (c .misplaced .ensures);
+          (frame-refuses _ (s .args .block) (set .result .sets) _ (λ h. c .before .if2 .left (e ∙ h)) (none .loop) (none .name)) (c .misplaced .ensures);
     }
 
 pub read-frame-spec : {M : Type 1} → statement M

@@ -35,7 +35,7 @@ returns c =
     record {
       bounds = omega (arith, s .pre, name .ensures, value .ensures, e .token);
       further = omega (arith, name .ensures, value .ensures);
-      goes = λ w sets packets q before outcome a.
+      goes = λ rules w sets packets q before outcome a.
           comes _ _ _ (value .ensures .counted .refusal ∙ name .ensures .counted .refusal ∙ s .pre .0 .going)
           (over-item-value _ _ _ (over-name _ _ _ a q (s .pre .1 .is) (name .ensures)) (e .is) (value .ensures));
     }
@@ -51,9 +51,9 @@ returns-2 c =
     record {
       bounds = omega (arith, s .pre, name .ensures, c .misplaced .ensures);
       further = omega (arith, name .ensures, c .misplaced .ensures);
-      goes = λ w sets packets q before outcome a.
+      goes = λ rules w sets packets q before outcome a.
           refused _ _ _ 8 (omega arith) (over-name _ _ _ a q (s .pre .1 .is) (name .ensures))
-          (named-refuses w _ (λ h. c .before .if1 .left (e ∙ h))) (c .misplaced .ensures);
+          (named-refuses _ w _ (λ h. c .before .if1 .left (e ∙ h))) (c .misplaced .ensures);
     }
 
 pub read-item-spec : {M : Type 1} → statement M

@@ -3,15 +3,17 @@ use mathlib.Core.Path.{_≡_, sym, _∙_, ap, subst}
 use Prim.Native.Nat.{ℕ}
 use borrow.Author.Needs.{needs}
 use lib.ListN.{length}
+use mathlib.Core.Bool.{Bool}
 use mathlib.Core.List.{List}
 use Rattle.star_text.specs.Outcome.{accepted, then}
-use Rattle.star_lex.specs.Rules.{layoutRules}
+use Rattle.star_lex.specs.Rules.{layoutRules, atStops}
 use Rattle.star_lex.specs.Tokens.{Placed}
 use Rattle.star_lex.specs.Split.{placed, tokensOf}
 use Rattle.star_lex.specs.Answer.{tokensIn}
 use Rattle.star_unique.specs.Repeat.{nothing, firstRepeat}
 use Rattle.star_lex.specs.Holds.{fileTokens}
 use Rattle.star_grammar.specs.Layout.{todayRow}
+use Rattle.star_grammar.proofs.Images.{row-stops}
 use Rattle.star_read.specs.Read.{ReadOutcome, Sizes, rowsFit, grammarOf}
 use Rattle.star_read.specs.Answer.{readAnswer, words, Leaves, Tables}
 use Rattle.star_unique.proofs.Comparing.{compared-accepted}
@@ -24,10 +26,10 @@ use Rattle.star_read.proofs.read_as.Tie as tie
 leaves-at : {o p : ReadOutcome} → p ≡ o → {m n : ℕ} → m ≡ n → (w : ℕ → Sizes) → {t : Tables} → Leaves o (w m) t → Leaves p (w n) t
 leaves-at {o} e {n = n} k w {t} l = subst (λ x. Leaves x (w n) t) (sym e) (subst (λ x. Leaves o (w x) t) k l)
 
-leaves-after : (layout : ℕ) (file : List ℕ) (w : ℕ → Sizes) {m n : ℕ} → m ≡ n → {p : ReadOutcome} → p ≡ then (grammarOf (layoutRules layout) (length file) (placed (tokensOf file))) (rowsFit (w n))
-    → {t : Tables} → Leaves (then (grammarOf (layoutRules layout) (length file) (placed (tokensOf file))) (rowsFit (w m))) (w m) t → Leaves p (w n) t
-leaves-after layout file w {n = n} k e {t} l =
-    subst (λ x. Leaves x (w n) t) (sym e) (subst (λ x. Leaves (then (grammarOf (layoutRules layout) (length file) (placed (tokensOf file))) (rowsFit (w x))) (w x) t) k l)
+leaves-after : (layout : ℕ) (stops : Bool) (file : List ℕ) (w : ℕ → Sizes) {m n : ℕ} → m ≡ n → {p : ReadOutcome} → p ≡ then (grammarOf (atStops (layoutRules layout) stops) (length file) (placed (tokensOf file))) (rowsFit (w n))
+    → {t : Tables} → Leaves (then (grammarOf (atStops (layoutRules layout) stops) (length file) (placed (tokensOf file))) (rowsFit (w m))) (w m) t → Leaves p (w n) t
+leaves-after layout stops file w {n = n} k e {t} l =
+    subst (λ x. Leaves x (w n) t) (sym e) (subst (λ x. Leaves (then (grammarOf (atStops (layoutRules layout) stops) (length file) (placed (tokensOf file))) (rowsFit (w x))) (w x) t) k l)
 
 abbrev entry : tie.After-read-tokens → tie.Start
 entry c = c .before .before .before .before .before .before .before .before
@@ -66,7 +68,7 @@ returns : tie.Need-returns
 returns c =
     let refused = c .before .before .before .before .before .before .before .before .before .before in
     let split = refused .before .before .before .before .before .before .before .before .before .before in
-    let o = read-refused (entry split .args .layout) (entry split .args .file .now) (whole split) (split .read-tokens .result) (split .read-tokens .ensures .answer) (refused .before .before .before .before .before .before .if1 .taken) in
+    let o = read-refused (entry split .args .layout) (entry split .args .stops) (entry split .args .file .now) (whole split) (split .read-tokens .result) (split .read-tokens .ensures .answer) (refused .before .before .before .before .before .before .if1 .taken) in
     record {
       answer = refused .refuse .ensures .answer ∙ sym (ap readAnswer o);
       leaves = leaves-at o (split .read-tokens .kept .1 .1 .0) (sizes split) (refused .refuse .ensures .leaves);
@@ -87,7 +89,7 @@ read-tables-requires c κs =
     let else = c .before .before .before .before .before in
     let t = tokens else in
     let split = splits else .read-tokens in
-    (holds-today (entry (splits else) .args .layout) _ _ (t .0) (t .1) _ _ (t .2) (split .kept .1 .1 .0) (split .ensures .table), t .3)
+    (holds-today (entry (splits else) .args .layout) _ _ (t .0) (t .1) _ _ (t .2) (split .kept .1 .1 .0) (split .ensures .table), t .3 ∙ sym (ap (firstRepeat nothing) (row-stops (layoutRules (entry (splits else) .args .layout)) (entry (splits else) .args .stops) _)))
 
 same-length-6 : tie.Need-same-length-6
 same-length-6 c = search needs
@@ -111,11 +113,12 @@ returns-2 c =
     let split = splits else in
     let file = entry split .args .file .now in
     let layout = entry split .args .layout in
-    let o = read-after layout file (whole split) (tokens else .0) (tokens else .1) in
+    let stops = entry split .args .stops in
+    let o = read-after layout stops file (whole split) (tokens else .0) (tokens else .1) in
     let l = split .read-tokens .kept .1 .1 .0 in
     record {
-      answer = read .read-tables .ensures .answer ∙ ap (λ n. readAnswer (then (grammarOf (layoutRules layout) (length file) (placed (tokensOf file))) (rowsFit (sizes split n)))) l ∙ sym (ap readAnswer o);
-      leaves = leaves-after layout file (sizes split) l o (read .read-tables .ensures .leaves);
+      answer = read .read-tables .ensures .answer ∙ ap (λ n. readAnswer (then (grammarOf (atStops (layoutRules layout) stops) (length file) (placed (tokensOf file))) (rowsFit (sizes split n)))) l ∙ sym (ap readAnswer o);
+      leaves = leaves-after layout stops file (sizes split) l o (read .read-tables .ensures .leaves);
     }
 
 pub read-as-spec : {M : Type 1} → statement M

@@ -6,7 +6,7 @@ use borrow.Author.Needs.{needs}
 use Rattle.star_read.specs.Read.{ReadOutcome}
 use Rattle.star_read.specs.Answer.{Tables, Gives}
 use Rattle.star_read.specs.declared.Answer.{Answer}
-use Rattle.star_read.proofs.InLayout.{in-none, in-layout}
+use Rattle.star_read.proofs.InLayout.{in-none, in-stopless}
 use Rattle.star_read.proofs.read_layout.Statement.{statement}
 use Rattle.star_read.proofs.read_layout.Tie as tie
 
@@ -64,7 +64,7 @@ returns-2 c =
     let else = read .before .before .before .before .before .before in
     let start = c .before .before .before .before .before .before .before .before .before .before .before .before .before .before .before .before .before .before .before .before .before .before .before in
     let known : start .args .layout ≤ 1 = omega (arith, else .if1 .left) in
-    gives-at (in-layout (start .args .layout) (start .args .file .now) _ known) (read .read-as .ensures)
+    gives-at (in-stopless (start .args .layout) (start .args .file .now) _ known) (read .read-as .ensures)
 
 pub read-layout-spec : {M : Type 1} → statement M
 read-layout-spec =

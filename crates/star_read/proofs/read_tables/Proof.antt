@@ -3,7 +3,7 @@ use mathlib.Core.Path.{_≡_, sym, _∙_, ap}
 use borrow.Author.Needs.{needs}
 use lib.ListN.{length}
 use Rattle.star_text.specs.Outcome.{accepted, then}
-use Rattle.star_lex.specs.Rules.{layoutRules}
+use Rattle.star_lex.specs.Rules.{layoutRules, atStops}
 use Rattle.star_lex.specs.Split.{placed, tokensOf}
 use Rattle.star_parse.specs.Parsed.{FourTables, fourTables as four}
 use Rattle.star_read.specs.Read.{rowsFit, grammarOf}
@@ -73,7 +73,7 @@ returns c =
     let judged = refused-at refused in
     let read = rows-read judged in
     let at = entry read in
-    let o = outcome-refused (at .args .layout) (at .args .file .now) (at .args .tokens .now) (at .args .count) (at .pre .0) (old read) (new read) (same read) (read .read-rows .result) (read .read-rows .ensures .0) (at .args .taken) (at .pre .1) (judged .judge .result) (judged .judge .ensures) (refused .before .before .before .before .before .before .if1 .taken) in
+    let o = outcome-refused (at .args .layout) (at .args .stops) (at .args .file .now) (at .args .tokens .now) (at .args .count) (at .pre .0) (old read) (new read) (same read) (read .read-rows .result) (read .read-rows .ensures .0) (at .args .taken) (at .pre .1) (judged .judge .result) (judged .judge .ensures) (refused .before .before .before .before .before .before .if1 .taken) in
     record { answer = refused .refuse .ensures .answer ∙ sym (ap readAnswer o); leaves = leaves-refused (at .args .tokens .now) (old read) (new read) (same read) _ _ _ o (refused .refuse .ensures .leaves) }
 
 clear-behind-requires : tie.Need-clear-behind-requires
@@ -106,16 +106,17 @@ returns-2 c =
     let read = rows-read judged in
     let at = entry read in
     let layout = at .args .layout in
+    let stops = at .args .stops in
     let tokens = at .args .tokens .now in
     let file = at .args .file .now in
     let rows = read .read-rows in
-    let s = outcome-settled layout file tokens (at .args .count) (at .pre .0) (old read) (new read) (same read) (rows .result) (rows .ensures .0) (at .args .taken) (at .pre .1) (judged .judge .result) (judged .judge .ensures) (cleared .before .before .before .before .before .if1 .left) in
-    let a = rows-accepted layout file tokens (at .args .count) (at .pre .0) (old read) (new read) (same read) (rows .result) (rows .ensures .0) (at .args .taken) (at .pre .1) (judged .judge .result) (judged .judge .ensures) (s .rows) (s .is-good) in
+    let s = outcome-settled layout stops file tokens (at .args .count) (at .pre .0) (old read) (new read) (same read) (rows .result) (rows .ensures .0) (at .args .taken) (at .pre .1) (judged .judge .result) (judged .judge .ensures) (cleared .before .before .before .before .before .if1 .left) in
+    let a = rows-accepted layout stops file tokens (at .args .count) (at .pre .0) (old read) (new read) (same read) (rows .result) (rows .ensures .0) (at .args .taken) (at .pre .1) (judged .judge .result) (judged .judge .ensures) (s .rows) (s .is-good) in
     let k = cleared-held (at .args .count) (s .rows) (old read) (new read) _ (rows .result) a (cleared .clear-behind .ensures) (s .room .sets) (s .room .names) (s .room .packets) (s .room .values) in
-    let o : then (grammarOf (layoutRules layout) (length file) (placed (tokensOf file))) (rowsFit (sizesOf (length tokens) (old read))) ≡ accepted (placed (tokensOf file), s .rows) = s .outcome in
+    let o : then (grammarOf (atStops (layoutRules layout) stops) (length file) (placed (tokensOf file))) (rowsFit (sizesOf (length tokens) (old read))) ≡ accepted (placed (tokensOf file), s .rows) = s .outcome in
     record {
       answer = accepted-answer _ (placed (tokensOf file)) (s .rows) (at .args .count) (old read) (new read) (rows .result) o (at .pre .0 .table .count-is) a;
-      leaves = accepted-leaves _ (placed (tokensOf file)) (s .rows) (length tokens) _ (old read) _ o (turned .from-today .ensures ∙ put-back layout file tokens (at .args .count) (at .pre .0) (s .rows) (s .is-good)) k;
+      leaves = accepted-leaves _ (placed (tokensOf file)) (s .rows) (length tokens) _ (old read) _ o (turned .from-today .ensures ∙ put-back layout stops file tokens (at .args .count) (at .pre .0) (s .rows) (s .is-good)) k;
     }
 
 pub read-tables-spec : {M : Type 1} → statement M

@@ -1,22 +1,28 @@
--- `answer` meets its contract: the tests stand in the order of the definition.
+-- `answer` meets its contract: reading's refusal is writing's, and else the size of the plain form decides.
 use mathlib.Core.Path.{_∙_, sym, ap}
 use native.Mathlib.Omega.{arith}
 use borrow.Author.Needs.{needs}
-use Rattle.star_write.specs.Answer.{writeAnswer}
-use Rattle.star_write.proofs.Outcomes.{counted, refuses-reading, too-long, too-short, fits-output}
+use Rattle.star_lex.specs.Plain.{plainOf}
+use Rattle.star_lex.specs.Holds.{fileTokens}
+use Rattle.star_read.specs.Read.{readIn}
+use Rattle.star_read.proofs.Accepted.{number-in}
+use Rattle.star_write.specs.Write.{writeIn}
+use Rattle.star_write.specs.Answer.{writeAnswer, fittedAnswer}
+use Rattle.star_write.proofs.Outcomes.{refuses-by, fitted-by, plain-in}
 use Rattle.star_write.proofs.answer.Statement.{statement}
 use Rattle.star_write.proofs.answer.Tie as tie
-
-abbrev entry : tie.After-plain-length → tie.Start
-entry c = c .before .before .before .before .before .before
 
 refusing-requires : tie.Need-refusing-requires
 refusing-requires c κs = search needs
 
 returns : tie.Need-returns
+unfolding writeIn
 returns c =
-    let start = c .before .before .before .before .before in
-    λ layout words e. c .refusing .ensures ∙ sym (ap writeAnswer (refuses-reading layout _ words _ e (start .args .room) (c .before .if1 .taken)))
+    let args = c .before .before .before .before .before .args in
+    let file = args .file .now in
+    λ layout words e.
+    c .refusing .ensures
+    ∙ sym (ap writeAnswer (refuses-by (readIn layout file words) (λ ts. ts) (plainOf (fileTokens file)) (plain-in layout file words) _ e (args .room) (c .before .if1 .taken)))
 
 cast-plain-length : tie.Need-cast-plain-length
 cast-plain-length c = search needs
@@ -24,37 +30,20 @@ cast-plain-length c = search needs
 plain-length-requires : tie.Need-plain-length-requires
 plain-length-requires c κs = c .before .before .before .before .before .pre (c .before .if1 .left)
 
-refusing-requires-2 : tie.Need-refusing-requires-2
-refusing-requires-2 c κs = search needs
+fitted-requires : tie.Need-fitted-requires
+fitted-requires c κs = search needs
 
 returns-2 : tie.Need-returns-2
+unfolding writeIn
 returns-2 c =
-    let sized = c .before .before in
+    let sized = c .before in
+    let else = sized .before .before in
+    let args = sized .before .before .before .before .before .before .args in
+    let file = args .file .now in
     λ layout words e.
-    c .refusing2 .ensures
-    ∙ sym (ap writeAnswer (too-long layout _ words _ e (entry sized .args .room) (sized .before .before .if1 .left) (omega (arith, sized .plain-length .ensures))))
-
-refusing-requires-3 : tie.Need-refusing-requires-3
-refusing-requires-3 c κs = search needs
-
-returns-3 : tie.Need-returns-3
-returns-3 c =
-    let sized = c .before .before .before in
-    let size = sized .plain-length .ensures in
-    λ layout words e.
-    c .refusing3 .ensures
-    ∙ sym (ap writeAnswer (too-short layout _ words _ e (entry sized .args .room) (sized .before .before .if1 .left) (omega (arith, size)) (omega (arith, size))))
-
-cast-t8 : tie.Need-cast-t8
-cast-t8 c = search needs
-
-returns-4 : tie.Need-returns-4
-returns-4 c =
-    let sized = c .before .before in
-    let size = sized .plain-length .ensures in
-    λ layout words e.
-    ap (λ n. counted n (entry sized .args .reading)) size
-    ∙ fits-output layout _ words _ e (entry sized .args .room) (sized .before .before .if1 .left) (omega (arith, size)) (omega (arith, size))
+    c .fitted .ensures
+    ∙ ap (λ n. fittedAnswer (args .reading) n (args .room)) (sized .plain-length .ensures)
+    ∙ fitted-by (readIn layout file words) (λ ts. ts) (plainOf (fileTokens file)) (plain-in layout file words) _ e (args .room) (number-in layout file words) (else .if1 .left)
 
 pub answer-spec : {M : Type 1} → statement M
 answer-spec =
@@ -64,9 +53,5 @@ answer-spec =
     returns
     cast-plain-length
     plain-length-requires
-    refusing-requires-2
-    returns-2
-    refusing-requires-3
-    returns-3
-    cast-t8
-    returns-4)
+    fitted-requires
+    returns-2)

@@ -1,12 +1,12 @@
 //! Files of many save frames as each layout has them: closed by `save_`, and by `stop_`.
 
-use super::{laid_out, value, Piece, Rng};
+use super::{laid_out, stops, value, Piece, Rng};
 use crate::reference;
 
 /// A file that is accepted in today's layout, and the same bytes as the layout of 1991
 /// has them, accepted there: `stop_` for each `save_` alone.
 pub fn pair(rng: &mut Rng) -> [Vec<u8>; 2] {
-    let today = pieces(rng);
+    let today = pieces(rng, false);
     let mut of_1991 = today.clone();
     of_1991.iter_mut().filter(|piece| is(piece, "save_")).for_each(turn);
     // the words are of one length, and so is all that stands between
@@ -34,10 +34,11 @@ pub fn file(rng: &mut Rng) -> Vec<u8> {
     }
 }
 
-/// A file of either layout with a few of its `stop_` and `save_` changed, left out or put
-/// somewhere else, or with any tokens changed.
+/// A file of either layout, at times with header stops, with a few of its `stop_` and
+/// `save_` changed, left out or put somewhere else, or with any tokens changed.
 pub fn changed(rng: &mut Rng) -> Vec<u8> {
-    let mut pieces = pieces(rng);
+    let stops = rng.once_in(4);
+    let mut pieces = pieces(rng, stops);
     if !rng.once_in(3) {
         pieces.iter_mut().filter(|piece| is(piece, "save_")).for_each(turn);
     }
@@ -90,11 +91,12 @@ fn change(rng: &mut Rng, pieces: &mut Vec<Piece>) {
 /// About how many tokens these files have at most.
 const SIZE: usize = 200;
 
-/// The tokens of an accepted file of today's layout: data and global blocks with frames,
-/// and items and loops before, between and after them.
-fn pieces(rng: &mut Rng) -> Vec<Piece> {
+/// The tokens of an accepted file of today's layout, or of an old one that may have header
+/// stops: data and global blocks with frames, and items and loops before, between and after
+/// them.
+pub(super) fn pieces(rng: &mut Rng, stops: bool) -> Vec<Piece> {
     if rng.once_in(4) {
-        return super::pieces(rng);
+        return super::built(rng, stops);
     }
     let mut pieces = Vec::new();
     for number in 0..rng.pick(&[1, 1, 1, 2, 3]) {
@@ -103,9 +105,9 @@ fn pieces(rng: &mut Rng) -> Vec<Piece> {
         let mut names = 0;
         for code in 0..rng.below(6) {
             if rng.once_in(3) {
-                member(rng, &mut pieces, &mut names);
+                member(rng, &mut pieces, &mut names, stops);
             } else if pieces.len() < SIZE {
-                frame(rng, &mut pieces, code);
+                frame(rng, &mut pieces, code, stops);
             }
         }
     }
@@ -113,17 +115,17 @@ fn pieces(rng: &mut Rng) -> Vec<Piece> {
 }
 
 /// A frame of up to three items and loops; its names come again in others and in the block.
-fn frame(rng: &mut Rng, pieces: &mut Vec<Piece>, code: usize) {
+fn frame(rng: &mut Rng, pieces: &mut Vec<Piece>, code: usize, stops: bool) {
     pieces.push(Piece::word(format!("save_{code}")));
     let mut names = 0;
     for _ in 0..rng.pick(&[0, 0, 1, 1, 1, 2, 3]) {
-        member(rng, pieces, &mut names);
+        member(rng, pieces, &mut names, stops);
     }
     pieces.push(Piece::word("save_"));
 }
 
 /// An item or a loop of one level or more, their names numbered.
-fn member(rng: &mut Rng, pieces: &mut Vec<Piece>, names: &mut usize) {
+fn member(rng: &mut Rng, pieces: &mut Vec<Piece>, names: &mut usize, stops: bool) {
     let mut name = || {
         *names += 1;
         Piece::word(format!("_{names}"))
@@ -138,15 +140,16 @@ fn member(rng: &mut Rng, pieces: &mut Vec<Piece>, names: &mut usize) {
         pieces.push(Piece::word("loop_"));
         pieces.extend((0..count).map(|_| name()));
     }
-    let stops = if rng.once_in(3) { rng.below(depth) } else { 0 };
-    pieces.extend((0..stops).map(|_| Piece::word("stop_")));
+    if stops {
+        pieces.extend((0..stops::count(rng, depth)).map(|_| Piece::word("stop_")));
+    }
     for _ in 0..rng.pick(&[1, 1, 2, 3]) {
         packet(rng, pieces, &levels);
     }
 }
 
 /// The values of a packet and, if there is a deeper level, its packets and `stop_`.
-fn packet(rng: &mut Rng, pieces: &mut Vec<Piece>, levels: &[usize]) {
+pub(super) fn packet(rng: &mut Rng, pieces: &mut Vec<Piece>, levels: &[usize]) {
     pieces.extend((0..levels[0]).map(|_| word(rng)));
     let deeper = &levels[1..];
     if deeper.is_empty() {
@@ -317,7 +320,7 @@ mod tests {
     /// give, and some are accepted.
     #[test]
     fn changed_files_are_varied() {
-        let mut tally = [[0u32; 12]; 2];
+        let mut tally = [[0u32; 17]; 2];
         for seed in 0..6000 {
             let file = changed(&mut Rng::new(seed));
             for (layout, tally) in tally.iter_mut().enumerate() {
@@ -326,7 +329,7 @@ mod tests {
             }
         }
         for tally in tally {
-            assert!([0, 8, 10].iter().all(|&refusal| tally[refusal] > 200), "{tally:?}");
+            assert!([0, 8, 10, 16].iter().all(|&refusal| tally[refusal] > 200), "{tally:?}");
             assert!(tally[9] > 5, "{tally:?}");
         }
     }

@@ -5,6 +5,7 @@ use Prim.Native.Nat.{ℕ, _+_, _-_, _≤_, _<_}
 use native.Mathlib.Omega.{arith}
 use lib.ListN.{length, getD, set, length-set}
 use Rattle.star_text.specs.Bytes.{mostBytes}
+use Rattle.star_lex.specs.Rules.{today, atStops}
 use Rattle.star_grammar.specs.Machine.{Where, setOf, header}
 use Rattle.star_parse.specs.Parsed.{fourTables}
 use Rattle.star_parse.specs.Reader.{Ready, PassesWith, Unvalued, nameAt}
@@ -16,16 +17,16 @@ use Rattle.star_parse.proofs.header.read_loop.Statement.{statement}
 use Rattle.star_parse.proofs.header.read_loop.Tie as tie
 
 abbrev Inv-loop : tie.InvT-loop
-Inv-loop tokens count set names₀ packets₀ values₀ p₀ first counts₀ level₀ names packets values p counts level =
+Inv-loop tokens count set names₀ packets₀ values₀ stops p₀ first counts₀ level₀ names packets values p counts level =
     Ready count tokens p × (p₀ .at ≤ p .at) × (level < 8) × (length counts ≡ 8) × ((i : ℕ) → getD counts i 0 ≤ mostBytes)
     × (length names ≡ length names₀) × (length packets ≡ length packets₀) × (length values ≡ length values₀)
     × ((w : Where) (sets : List ℕ) → setOf w ≡ set
-    → PassesWith count tokens (header w first [] 0 0) (Unvalued first) p₀ (fourTables sets names₀ packets₀ values₀)
+    → PassesWith (atStops today stops) count tokens (header w first [] 0 0) (Unvalued first) p₀ (fourTables sets names₀ packets₀ values₀)
     (header w first (outers level counts) 0 0) (Unvalued first) p (fourTables sets names packets values))
     × ((i : ℕ) → i < level → 0 < getD counts i 0) × (nameAt first counts level ≡ p .names + 1)
 
 abbrev μ-loop : tie.MeasureT-loop
-μ-loop tokens count set names₀ packets₀ values₀ p₀ first counts₀ level₀ names packets values p counts level = 8 - level
+μ-loop tokens count set names₀ packets₀ values₀ stops p₀ first counts₀ level₀ names packets values p counts level = 8 - level
 
 opened-requires : tie.Need-opened-requires Inv-loop μ-loop
 opened-requires c κs = omega (arith, c .before .before .before .before .pre)
@@ -80,14 +81,14 @@ begin c = c .before .before .before .before .before .before .before .before .bef
 
 -- the names of a level, from the loop's beginning on
 named : (c : tie.After-struct-known2 Inv-loop μ-loop) (w : Where) (sets : List ℕ) → setOf w ≡ begin c .args .set
-    → PassesWith (begin c .args .count) (begin c .args .tokens .now) (header w (headed c .opened .result .names + 1) [] 0 0)
+    → PassesWith (atStops today (begin c .args .stops)) (begin c .args .count) (begin c .args .tokens .now) (header w (headed c .opened .result .names + 1) [] 0 0)
     (Unvalued (headed c .opened .result .names + 1)) (headed c .opened .result)
     (fourTables sets (begin c .args .names .now) (begin c .args .packets .now) (begin c .args .values .now))
     (header w (headed c .opened .result .names + 1) (outers (turn c .loop .level) (turn c .loop .counts)) (level c .read-names .result .names - turn c .loop .p .names) 0)
     (Unvalued (headed c .opened .result .names + 1)) (level c .read-names .result) (fourTables sets (level c .read-names .last .1 .1 .1 .1 .1 .0) (turn c .loop .packets) (turn c .loop .values))
 named c w sets q before outcome a =
     let l = turn c .loop in
-    level c .read-names .ensures .goes w _ _ sets _ _ q (omega (arith, outers-length (l .counts) (l .level) 0 (l .inv .3) (l .inv .2))) before outcome
+    level c .read-names .ensures .goes _ w _ _ sets _ _ q (omega (arith, outers-length (l .counts) (l .level) 0 (l .inv .3) (l .inv .2))) before outcome
     (l .inv .8 w sets q before outcome a)
 
 returns : tie.Need-returns Inv-loop μ-loop
@@ -101,7 +102,7 @@ returns c =
       goes = λ w sets q before outcome a.
           refused _ _ _ 8 (omega arith)
           (rw (c .before .if1 .taken) at (named (c .before .before .before) w sets q before outcome (over-loop _ _ _ a (s .pre .1 .is) (c .before .before .before .before .before .before .before .before .before .before .opened .ensures))))
-          (nameless-refuses w _ _ _ (level .ensures .last)) (c .misplaced .ensures);
+          (nameless-refuses _ w _ _ _ (level .ensures .last)) (c .misplaced .ensures);
     }
 
 mul-counts : tie.Need-mul-counts Inv-loop μ-loop
@@ -110,11 +111,11 @@ mul-counts c = omega (arith, c .before .before .before .before .before .before .
 array-write-counts : tie.Need-array-write-counts Inv-loop μ-loop
 array-write-counts c = omega (arith, c .before .before .before .before .before .before .before .loop .inv .2)
 
-add-t24 : tie.Need-add-t24 Inv-loop μ-loop
-add-t24 c = omega (arith, c .before .before .before .before .before .before .before .before .loop .inv .2)
+add-t25 : tie.Need-add-t25 Inv-loop μ-loop
+add-t25 c = omega (arith, c .before .before .before .before .before .before .before .before .loop .inv .2)
 
-array-read-t27 : tie.Need-array-read-t27 Inv-loop μ-loop
-array-read-t27 c = omega arith
+array-read-t28 : tie.Need-array-read-t28 Inv-loop μ-loop
+array-read-t28 c = omega arith
 
 read-packets-requires : tie.Need-read-packets-requires Inv-loop μ-loop
 read-packets-requires c κs =
@@ -205,7 +206,7 @@ returns-3 c =
       further = omega (arith, at-opened .opened .ensures, l .inv .1, level .ensures .further, c .misplaced2 .ensures);
       goes = λ w sets q before outcome a.
           refused _ _ _ 11 (omega arith) (named (at-5) w sets q before outcome (over-loop _ _ _ a (s .pre .1 .is) (at-opened .opened .ensures)))
-          (deepest-refuses w _ _ (level .result .names - l .p .names) _ (omega (arith, at-if1 .if1 .left))
+          (deepest-refuses _ w _ _ (level .result .names - l .p .names) _ (omega (arith, at-if1 .if1 .left))
           (omega (arith, outers-length (l .counts) (l .level) 0 (l .inv .3) (l .inv .2), c .before .if3 .taken)) (sym e ∙ c .before .before .if2 .left))
           (c .misplaced2 .ensures);
     }
@@ -263,8 +264,8 @@ read-loop-spec =
     returns
     mul-counts
     array-write-counts
-    add-t24
-    array-read-t27
+    add-t25
+    array-read-t28
     read-packets-requires
     same-length-4
     same-length-5

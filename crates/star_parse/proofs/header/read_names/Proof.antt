@@ -4,6 +4,7 @@ use mathlib.Core.List.{List}
 use Prim.Native.Nat.{ℕ, suc, _-_, _≤_}
 use native.Mathlib.Omega.{arith}
 use lib.ListN.{length}
+use Rattle.star_lex.specs.Rules.{Rules}
 use Rattle.star_grammar.specs.Machine.{Where, setOf, header}
 use Rattle.star_parse.specs.Parsed.{fourTables}
 use Rattle.star_parse.specs.Reader.{Ready, PassesWith, Unvalued}
@@ -15,8 +16,8 @@ use Rattle.star_parse.proofs.header.read_names.Tie as tie
 abbrev Inv-loop : tie.InvT-loop
 Inv-loop tokens count set level names₀ p₀ names p =
     Ready count tokens p × (p₀ .at ≤ p .at) × (p₀ .names ≤ p .names) × (length names ≡ length names₀)
-    × ((w : Where) (first : ℕ) (outer : List ℕ) (sets packets values : List ℕ) → setOf w ≡ set → suc (length outer) ≡ level
-    → PassesWith count tokens (header w first outer 0 0) (Unvalued first) p₀ (fourTables sets names₀ packets values)
+    × ((rules : Rules) (w : Where) (first : ℕ) (outer : List ℕ) (sets packets values : List ℕ) → setOf w ≡ set → suc (length outer) ≡ level
+    → PassesWith rules count tokens (header w first outer 0 0) (Unvalued first) p₀ (fourTables sets names₀ packets values)
     (header w first outer (p .names - p₀ .names) 0) (Unvalued first) p
     (fourTables sets names packets values))
 
@@ -27,7 +28,7 @@ loop-holds : tie.Need-loop-holds Inv-loop μ-loop
 loop-holds c =
     let s = c .before .before in
     let e : s .args .p .names - s .args .p .names ≡ 0 = omega arith in
-    (s .pre, omega arith, omega arith, refl, λ w first outer sets packets values q d before outcome a. rw e a)
+    (s .pre, omega arith, omega arith, refl, λ rules w first outer sets packets values q d before outcome a. rw e a)
 
 sort-at-requires : tie.Need-sort-at-requires Inv-loop μ-loop
 sort-at-requires c κs = c .loop .inv .0 .bounds .rows
@@ -51,8 +52,8 @@ loop-again c =
       omega (arith, l .inv .1, v .ensures),
       omega (arith, l .inv .2, v .ensures),
       v .kept .1 .1 .1 .1 .0 ∙ l .inv .3,
-      λ w first outer sets packets values q d before outcome a.
-          rw more (over-level-name _ _ _ (l .inv .4 w first outer sets packets values q d before outcome a) q d (e .is) (v .ensures)),
+      λ rules w first outer sets packets values q d before outcome a.
+          rw more (over-level-name _ _ _ (l .inv .4 rules w first outer sets packets values q d before outcome a) q d (e .is) (v .ensures)),
     )
 
 same-length : tie.Need-same-length Inv-loop μ-loop

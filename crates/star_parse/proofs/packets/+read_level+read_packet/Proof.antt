@@ -8,6 +8,7 @@ use native.Mathlib.Omega.{arith}
 use lib.ListN.{length}
 use borrow.Fn.Kinds.{In}
 use borrow.Fn.PlainCycle.{Measures, is, falls, and}
+use Rattle.star_lex.specs.Rules.{Rules}
 use Rattle.star_grammar.specs.Machine.{Where, Level}
 use Rattle.star_parse.specs.Parsed.{fourTables}
 use Rattle.star_parse.specs.Reader.{Bounds, LeadsWith, Around, Columns, innerOf, levelOf, atLevel}
@@ -73,8 +74,8 @@ packet-claims t = (
 abbrev Inv-loop : read-level-lts.InvT-loop
 Inv-loop tokens count s began₀ packets₀ values₀ p₀ began packets values p =
     Bounds count tokens p × (p₀ .at ≤ p .at) × (length began ≡ length began₀) × (length packets ≡ length packets₀) × (length values ≡ length values₀)
-    × ((w : Where) (outer : List Level) (base : ℕ) (sets names : List ℕ) → Around s outer base
-    → LeadsWith count tokens (atLevel w outer s) (Columns base (s .counts) (s .levels) began₀) p₀ (fourTables sets names packets₀ values₀)
+    × ((rules : Rules) (w : Where) (outer : List Level) (base : ℕ) (sets names : List ℕ) → Around s outer base
+    → LeadsWith rules count tokens (atLevel w outer s) (Columns base (s .counts) (s .levels) began₀) p₀ (fourTables sets names packets₀ values₀)
     (atLevel w outer s) (Columns base (s .counts) (s .levels) began) p (fourTables sets names packets values))
 
 abbrev μ-loop : read-level-lts.MeasureT-loop
@@ -83,7 +84,7 @@ abbrev μ-loop : read-level-lts.MeasureT-loop
 read-level-loop-holds : (t : ℕ) → read-level-lts.Need-loop-holds (level-claims t) (read-level-at t) read-level.Post Inv-loop μ-loop
 read-level-loop-holds t c =
     let s = c .before .before .before .before in
-    (s .pre .1 .0 .bounds, omega arith, refl, refl, refl, λ w outer base sets names around before outcome a. comes _ _ _ (s .pre .1 .0 .going) a)
+    (s .pre .1 .0 .bounds, omega arith, refl, refl, refl, λ rules w outer base sets names around before outcome a. comes _ _ _ (s .pre .1 .0 .going) a)
 
 read-level-sort-at-requires : (t : ℕ) → read-level-lts.Need-sort-at-requires (level-claims t) (read-level-at t) read-level.Post Inv-loop μ-loop
 read-level-sort-at-requires t c κs = c .before .before .loop .inv .0 .rows
@@ -130,8 +131,8 @@ read-level-loop-again t c =
       v .kept .1 .1 .1 .1 .0 ∙ l .inv .2,
       v .kept .1 .1 .1 .1 .1 .0 ∙ l .inv .3,
       v .kept .1 .1 .1 .1 .1 .1 .0 ∙ l .inv .4,
-      λ w outer base sets names around before outcome a.
-          v .ensures .goes w outer base sets names around before outcome (l .inv .5 w outer base sets names around before outcome a .goes (c .before .before .before .before .before .before .before .before .before .before .before .before .if1 .taken)),
+      λ rules w outer base sets names around before outcome a.
+          v .ensures .goes rules w outer base sets names around before outcome (l .inv .5 rules w outer base sets names around before outcome a .goes (c .before .before .before .before .before .before .before .before .before .before .before .before .if1 .taken)),
     )
 
 read-level-same-length-4 : (t : ℕ) → read-level-lts.Need-same-length-4 (level-claims t) (read-level-at t) read-level.Post Inv-loop μ-loop
@@ -169,8 +170,8 @@ read-packet-returns t c =
     record {
       bounds = own .ensures .bounds;
       further = own .ensures .further;
-      goes = λ w outer base sets names around before outcome a.
-          stays _ _ _ (c .if1 .taken) (own .ensures .goes w outer base sets names around before outcome a);
+      goes = λ rules w outer base sets names around before outcome a.
+          stays _ _ _ (c .if1 .taken) (own .ensures .goes rules w outer base sets names around before outcome a);
     }
 
 read-packet-add-if2 : (t : ℕ) → read-packet-lts.Need-add-if2 (packet-claims t) (read-packet-at t) read-packet.Post
@@ -192,10 +193,10 @@ read-packet-returns-2 t c =
     record {
       bounds = own .ensures .bounds;
       further = own .ensures .further;
-      goes = λ w outer base sets names around before outcome a.
+      goes = λ rules w outer base sets names around before outcome a.
           comes _ _ _ (c .before .before .before .if1 .left)
           (unpacked _ _ _ (rw (filled-last (s .args .s) (s .pre .1 .1 .1 .0) w outer (s .args .p .packets + 1) (c .if2 .taken)) at
-          (own .ensures .goes w outer base sets names around before outcome a .goes (c .before .before .before .if1 .left))));
+          (own .ensures .goes rules w outer base sets names around before outcome a .goes (c .before .before .before .if1 .left))));
     }
 
 read-packet-deeper-requires : (t : ℕ) → read-packet-lts.Need-deeper-requires (packet-claims t) (read-packet-at t) read-packet.Post
@@ -242,25 +243,25 @@ abbrev begin : (t : ℕ) → read-packet-lts.After-struct-known5 (packet-claims 
 begin t c = c .before .before .before .before .before .before .before .before .before .before .before .before .before .before .before .before .before .before .before .before .before .before .before .before .before .before .before .before .before .before .before .before
 
 -- the packets of the level inside
-inside : (t : ℕ) (c : read-packet-lts.After-struct-known5 (packet-claims t) (read-packet-at t) read-packet.Post) (w : Where) (outer : List Level)
+inside : (t : ℕ) (c : read-packet-lts.After-struct-known5 (packet-claims t) (read-packet-at t) read-packet.Post) (rules : Rules) (w : Where) (outer : List Level)
     (base : ℕ) (sets names : List ℕ) → Around (begin t c .args .s) outer base
-    → LeadsWith (begin t c .args .count) (begin t c .args .tokens .now) (atLevel w outer (begin t c .args .s))
+    → LeadsWith rules (begin t c .args .count) (begin t c .args .tokens .now) (atLevel w outer (begin t c .args .s))
     (Columns base (begin t c .args .s .counts) (begin t c .args .s .levels) (begin t c .args .began .now)) (begin t c .args .p)
     (fourTables sets names (begin t c .args .packets .now) (begin t c .args .values .now))
     (atLevel w (levelOf (begin t c .args .s) (begin t c .args .p .packets + 1) ∷ outer) (step t c .deeper .result))
     (Columns base (step t c .deeper .result .counts) (step t c .deeper .result .levels) (level t c .read-level .last .1 .1 .1 .1 .0)) (level t c .read-level .result)
     (fourTables sets names (level t c .read-level .last .1 .1 .1 .1 .1 .0) (level t c .read-level .last .1 .1 .1 .1 .1 .1 .0))
-inside t c w outer base sets names around before outcome a =
+inside t c rules w outer base sets names around before outcome a =
     let s = begin t c in
     let h = s .pre .1 .1 .1 .0 in
     let packet : ℕ = s .args .p .packets + 1 in
     let l : s .args .s .level + 1 < s .args .s .levels = omega (arith, h .some, c .before .before .before .before .before .before .before .before .before .before .before .before .if2 .left) in
     let d = step t c .deeper in
-    level t c .read-level .ensures .0 .goes w (levelOf (s .args .s) packet ∷ outer) base sets names
+    level t c .read-level .ensures .0 .goes rules w (levelOf (s .args .s) packet ∷ outer) base sets names
     (around-deeper (s .args .s) h packet l (d .result) (d .ensures) outer base around) before outcome
     (becomes _ _ _ (λ rows m k. columns-deeper (s .args .s) h packet l (d .result) (d .ensures) base _ rows k)
     (rw (filled-deeper (s .args .s) h packet l (d .result) (d .ensures) w outer) at
-    (own t c .read-own .ensures .goes w outer base sets names around before outcome a .goes (c .before .before .before .before .before .before .before .before .before .before .before .before .before .before .before .if1 .left))))
+    (own t c .read-own .ensures .goes rules w outer base sets names around before outcome a .goes (c .before .before .before .before .before .before .before .before .before .before .before .before .before .before .before .if1 .left))))
 
 read-packet-returns-3 : (t : ℕ) → read-packet-lts.Need-returns-3 (packet-claims t) (read-packet-at t) read-packet.Post
 read-packet-returns-3 t c =
@@ -268,7 +269,7 @@ read-packet-returns-3 t c =
     record {
       bounds = level .ensures .0 .bounds;
       further = omega (arith, c .before .before .before .before .before .before .before .before .before .before .before .before .before .before .before .before .before .before .before .before .before .before .before .before .read-own .ensures .further, level .ensures .0 .further);
-      goes = λ w outer base sets names around before outcome a. stays _ _ _ (c .if3 .taken) (inside t (c .before) w outer base sets names around before outcome a);
+      goes = λ rules w outer base sets names around before outcome a. stays _ _ _ (c .if3 .taken) (inside t (c .before) rules w outer base sets names around before outcome a);
     }
 
 read-packet-read-stop-requires : (t : ℕ) → read-packet-lts.Need-read-stop-requires (packet-claims t) (read-packet-at t) read-packet.Post
@@ -294,11 +295,11 @@ read-packet-returns-4 t c =
     record {
       bounds = c .read-stop .ensures .bounds;
       further = omega (arith, c .before .before .before .before .before .before .before .before .before .before .before .before .before .before .before .before .before .before .before .before .before .before .before .before .before .read-own .ensures .further, c .before .before .before .before .before .before .before .before .before .read-level .ensures .0 .further, c .read-stop .ensures .further);
-      goes = λ w outer base sets names around before outcome a.
+      goes = λ rules w outer base sets names around before outcome a.
           onto _ _ _ (λ k. becomes _ _ _ (λ rows m j. columns-back (s .args .s) (s .pre .1 .1 .1 .0) packet l (d .result) (d .ensures) base _ rows j)
           (unpacked _ _ _ (rw (inner-some (s .args .s) (s .pre .1 .1 .1 .0) packet l (d .result) (d .ensures)) at k)))
-          (c .read-stop .ensures .goes w (levelOf (s .args .s) packet) (levelOf (d .result) 0) outer (innerOf (d .result)) _ base (d .result .counts) (d .result .levels) _ before outcome
-          (inside t (c .before .before) w outer base sets names around before outcome a .goes (c .before .if3 .left)));
+          (c .read-stop .ensures .goes rules w (levelOf (s .args .s) packet) (levelOf (d .result) 0) outer (innerOf (d .result)) _ base (d .result .counts) (d .result .levels) _ before outcome
+          (inside t (c .before .before) rules w outer base sets names around before outcome a .goes (c .before .if3 .left)));
     }
 
 pub +read-level+read-packet-spec : {M : Type 1} → statement M

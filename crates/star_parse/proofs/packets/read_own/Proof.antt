@@ -90,9 +90,9 @@ returns c =
     record {
       bounds = rest .ensures .0 .bounds;
       further = omega (arith, packet .ensures, value .ensures, rest .ensures .0 .further);
-      goes = λ w outer base sets names around before outcome a.
+      goes = λ rules w outer base sets names around before outcome a.
           rw (← packet .ensures .counted .packets)
-          (let k = rest .ensures .0 .goes w outer base (s .args .began .now) sets names _ (around .first)
+          (let k = rest .ensures .0 .goes rules w outer base (s .args .began .now) sets names _ (around .first)
           (back .ensures ∙ ap (backTo (getD (s .args .began .now) level 0)) (omega (arith, packet .ensures, value .ensures, z))) before outcome
           (over-first _ _ _ base (s .args .s .counts) (s .args .s .levels) level (s .args .began .now) (back .result) (h .some) a (s .pre .1 .0 .is)
           (omega (arith, around .depth)) (around .parent) z (around .first) (h .named level (h .some)) (back .ensures) (packet .ensures) (value .ensures)) in

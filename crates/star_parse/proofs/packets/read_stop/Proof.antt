@@ -24,7 +24,7 @@ returns c =
     record {
       bounds = omega (arith, s .pre .0, c .passed .ensures, e .token);
       further = omega (arith, c .passed .ensures);
-      goes = λ w around l outer inner t base counts levels began before outcome a.
+      goes = λ rules w around l outer inner t base counts levels began before outcome a.
           comes _ _ _ (c .passed .ensures .refusal ∙ s .pre .0 .going) (over-stop _ _ _ a (e .is) (c .passed .ensures));
     }
 
@@ -35,8 +35,8 @@ returns-2 c =
     record {
       bounds = omega (arith, s .pre .0, c .misplaced .ensures);
       further = omega (arith, c .misplaced .ensures);
-      goes = λ w around l outer inner t base counts levels began before outcome a.
-          refused _ _ _ 10 (omega arith) a (open-refuses w around outer l inner _ (s .pre .1) (λ h. c .before .if1 .left (e ∙ h))) (c .misplaced .ensures);
+      goes = λ rules w around l outer inner t base counts levels began before outcome a.
+          refused _ _ _ 10 (omega arith) a (open-refuses _ w around outer l inner _ (s .pre .1) (λ h. c .before .if1 .left (e ∙ h))) (c .misplaced .ensures);
     }
 
 pub read-stop-spec : {M : Type 1} → statement M

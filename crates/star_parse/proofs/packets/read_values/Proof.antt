@@ -4,6 +4,7 @@ use mathlib.Core.List.{List}
 use Prim.Native.Nat.{ℕ, _+_, _-_, _≤_, _<_}
 use native.Mathlib.Omega.{arith}
 use lib.ListN.{length, getD}
+use Rattle.star_lex.specs.Rules.{Rules}
 use Rattle.star_grammar.specs.Machine.{Where, Level}
 use Rattle.star_parse.specs.Parsed.{fourTables}
 use Rattle.star_parse.specs.Reader.{Ready, PassesWith, nameAt, backTo, Filling, innerOf, levelOf, partly}
@@ -15,9 +16,9 @@ use Rattle.star_parse.proofs.packets.read_values.Tie as tie
 abbrev Inv-loop : tie.InvT-loop
 Inv-loop tokens count packet back values₀ s₀ p₀ names first values s p =
     Ready count tokens p × (p₀ .at ≤ p .at) × (0 < s .filled) × (length values ≡ length values₀)
-    × ((w : Where) (outer : List Level) (base : ℕ) (began sets names packets : List ℕ) → s₀ .first ≡ nameAt base (s₀ .counts) (s₀ .level)
+    × ((rules : Rules) (w : Where) (outer : List Level) (base : ℕ) (began sets names packets : List ℕ) → s₀ .first ≡ nameAt base (s₀ .counts) (s₀ .level)
     → back ≡ backTo (getD began (s₀ .level) 0) (p₀ .values - s₀ .filled)
-    → PassesWith count tokens (partly w outer (levelOf s₀ packet) (innerOf s₀) (s₀ .filled))
+    → PassesWith rules count tokens (partly w outer (levelOf s₀ packet) (innerOf s₀) (s₀ .filled))
     (Filling base (s₀ .counts) (s₀ .levels) (s₀ .level) (s₀ .filled) began) p₀ (fourTables sets names packets values₀)
     (partly w outer (levelOf s₀ packet) (innerOf s₀) (s .filled)) (Filling base (s₀ .counts) (s₀ .levels) (s₀ .level) (s .filled) began) p
     (fourTables sets names packets values))
@@ -33,7 +34,7 @@ loop-holds c =
       omega arith,
       s .pre .1 .1 .0,
       refl,
-      λ w outer base began sets names packets q b before outcome a. a,
+      λ rules w outer base began sets names packets q b before outcome a. a,
       rw (s .pre .1 .0 .names) (s .pre .1 .1 .1 .0),
       omega arith,
       omega arith,
@@ -56,8 +57,8 @@ returns c =
       record {
         bounds = omega (arith, l .inv .0, c .misplaced .ensures);
         further = omega (arith, l .inv .1, c .misplaced .ensures);
-        goes = λ w outer base began sets names packets q b before outcome a.
-            not-full _ _ _ w outer (levelOf (s .args .s) (s .args .packet)) (innerOf (s .args .s)) _ (l .inv .4 w outer base began sets names packets q b before outcome a)
+        goes = λ rules w outer base began sets names packets q b before outcome a.
+            not-full _ _ _ w outer (levelOf (s .args .s) (s .args .packet)) (innerOf (s .args .s)) _ (l .inv .4 rules w outer base began sets names packets q b before outcome a)
             (l .inv .2) (rw n at (c .before .before .before .if1 .taken)) (λ h. c .before .if2 .taken (c .before .before .sort-at .ensures .is ∙ h)) (c .misplaced .ensures);
       },
       λ z. absurd (omega (arith, c .misplaced .ensures .refusal, z)),
@@ -95,9 +96,9 @@ loop-again c =
       omega (arith, l .inv .1, v .ensures),
       omega arith,
       v .kept .1 .1 .1 .1 .0 ∙ l .inv .3,
-      λ w outer base began sets names packets q b before outcome a.
+      λ rules w outer base began sets names packets q b before outcome a.
           over-value _ _ _ base (s .args .s .counts) (s .args .s .levels) (s .args .s .level) began (s .args .back) (s .pre .1 .0 .some) w outer (s .args .s .first) (s .args .packet)
-          (innerOf (s .args .s)) _ (l .inv .4 w outer base began sets names packets q b before outcome a) (l .inv .2)
+          (innerOf (s .args .s)) _ (l .inv .4 rules w outer base began sets names packets q b before outcome a) (l .inv .2)
           (rw n at (c .before .before .before .before .before .before .before .before .if1 .taken)) (e .is) q
           (b ∙ ap (backTo (getD began (s .args .s .level) 0)) (let d : s .args .p .values - s .args .s .filled ≡ l .p .values - l .s .filled = omega (arith, l .inv .6, l .inv .7) in d))
           (v .ensures),
@@ -118,10 +119,10 @@ returns-2 c =
       record {
         bounds = l .inv .0 .bounds;
         further = l .inv .1;
-        goes = λ w outer base began sets names packets q b before outcome a.
+        goes = λ rules w outer base began sets names packets q b before outcome a.
             comes _ _ _ (l .inv .0 .going)
             (becomes _ _ _ (λ rows m f. rw all at f)
-            (full _ _ _ w outer (levelOf (s .args .s) (s .args .packet)) (innerOf (s .args .s)) _ (l .inv .4 w outer base began sets names packets q b before outcome a) (rw n at (c .if1 .left))));
+            (full _ _ _ w outer (levelOf (s .args .s) (s .args .packet)) (innerOf (s .args .s)) _ (l .inv .4 rules w outer base began sets names packets q b before outcome a) (rw n at (c .if1 .left))));
       },
       λ z. omega (arith, l .inv .6, all),
     )

@@ -1,0 +1,4 @@
+pub mod Stopless
+pub mod Drop
+pub mod Inner
+pub mod Demands
