@@ -22,12 +22,11 @@ use Rattle.star_number.proofs.Exactness.{whole-exact, power-exact, rounded-once
 use Rattle.star_number.proofs.Finite.{floats-finite}
 use Rattle.star_number.proofs.Known.{numbers-known}
 use Rattle.star_number.proofs.InOrder.{numbers-in-order, numbers-answer}
-use Rattle.star_write.proofs.Demand1.{write-answers}
+use Rattle.star_write.proofs.Demand1.{write-answers, drop-answers}
 use Rattle.star_write.proofs.RoundTrip.{round-trip, writes-again}
+use Rattle.star_write.proofs.StopsDropped.{stops-dropped, dropped-writes-again}
 use Rattle.star_convert.proofs.Demand1.{convert-answers}
 use Rattle.star_convert.proofs.OverAndBack.{converted-reads, over-and-back}
-use Rattle.star_stops.proofs.StopsDropped.{stops-dropped, dropped-writes-again}
-use Rattle.star_stops.proofs.Demand1.{drop-answers}
 use Rattle.star_check.proofs.OldBench.{fits-32, fits-32-no, fits-answers}
 use Rattle.star_index.proofs.Exactly.{index-exactly}
 use Rattle.star_index.proofs.IndexLookup.{index-lookup}

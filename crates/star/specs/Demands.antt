@@ -9,9 +9,8 @@ use Rattle.star_read.specs.Demands.{Usable, AcceptedExactly, OneReading, RowsOf
 use Rattle.star_find.specs.Demands.{LookupByName, LookupBlock, LookupFrame, LookupsAnswer}
 use Rattle.star_value.specs.Demands.{ValuesInOrder, Column, SpanPart, ValuesAnswer}
 use Rattle.star_number.specs.Demands.{NumberExact, NumberPieces, WholeExact, PowerExact, RoundedOnce, FloatsFinite, NumbersKnown, NumbersInOrder, NumbersAnswer}
-use Rattle.star_write.specs.Demands.{RoundTrip, WritesAgain, WriteAnswers}
+use Rattle.star_write.specs.Demands.{RoundTrip, WritesAgain, WriteAnswers, StopsDropped, DroppedWritesAgain, DropAnswers}
 use Rattle.star_convert.specs.Demands.{OverAndBack, ConvertedReads, ConvertAnswers}
-use Rattle.star_stops.specs.Demands.{StopsDropped, DroppedWritesAgain, DropAnswers}
 use Rattle.star_check.specs.Demands.{Fits32, Fits32No, FitsAnswers}
 use Rattle.star_index.specs.Demands.{IndexExactly, IndexLookup}
 use Rattle.star_build.specs.Known.{IndexKnown}

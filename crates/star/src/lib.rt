@@ -19,9 +19,8 @@ ghost use Rattle.star_index.specs.Index.{Checks};
 ghost use Rattle.star_build.specs.Build.{Builds};
 ghost use Rattle.star_number.specs.Taken.{numberIn};
 ghost use Rattle.star_number.specs.Forms.{formOf, valueNumber, valueFormOf};
-ghost use Rattle.star_write.specs.Answer.{Writes};
+ghost use Rattle.star_write.specs.Answer.{Writes, DropsStops};
 ghost use Rattle.star_convert.specs.Convert.{Converts};
-ghost use Rattle.star_stops.specs.Drop.{DropsStops};
 ghost use Rattle.star_check.specs.Fits.{FitsChecked};
 
 // Reads a file into the five tables: layout 0 is today's, 1 that of 1991, and any other number is refused before all else. On a refusal the counts and
@@ -259,7 +258,7 @@ pub extern "C" fn star_drop_header_stops(
         (tables (now (tokens .exit)) (now (sets .exit)) (now (names .exit)) (now (packets .exit)) (now (values .exit)))
         (now (out .entry)) (now (out .exit)) r ⌝ }
 {
-    star_stops::drop_header_stops(file, tokens, sets, names, packets, values, out)
+    star_write::drop_header_stops(file, tokens, sets, names, packets, values, out)
 }
 
 // Reads a file into the five tables and answers whether every name and code has at most 32 bytes. After yes or no the tables hold the reading; on a refusal yes, counts and

@@ -130,7 +130,7 @@ fn drop_stops(file: &[u8], kept: &mut [u32], out: &mut [u8]) -> Written {
     let mut names = [FILLED; 1024];
     let mut packets = [FILLED; 1024];
     let mut values = [FILLED; 1024];
-    let written = star_stops::drop_header_stops(
+    let written = star_write::drop_header_stops(
         file,
         kept::lend(&mut tokens, kept, 1),
         kept::lend(&mut sets, kept, 2),

@@ -16,9 +16,9 @@ use Rattle.star_read.specs.Read.{ReadOutcome, Sizes, tokensOnly, readIn}
 use Rattle.star_read.specs.Answer.{readingOf, readAnswer, Tables, sizes, Leaves}
 use Rattle.star_read.proofs.Accepted.{tokens-are, left-in}
 use Rattle.star_write.specs.Write.{Writing, written, plainFits, writeIn}
-use Rattle.star_write.specs.Answer.{writeAnswer, counted, bytesOf, outputOf, Leaving, WritesIn}
+use Rattle.star_write.specs.Answer.{writeAnswer, bytesOf, outputOf, Leaving, WritesIn}
 use Rattle.star_write.specs.declared.Written.{Written}
-use Rattle.star_write.proofs.Outcomes.{Wrote, wrote-by, writing-refused, Success}
+use Rattle.star_write.proofs.Outcomes.{Wrote, wrote-by, counted, writing-refused, Success}
 use Rattle.star_convert.specs.Convert.{otherRow, convertOf, Converts}
 use Rattle.star_convert.proofs.Converting.{as-long}
 

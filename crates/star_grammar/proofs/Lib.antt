@@ -25,3 +25,8 @@ pub mod Tracking
 pub mod Layouts
 pub mod Yields
 pub mod Images
+pub mod Dropping
+pub mod Stopless
+pub mod Alike
+pub mod AlikeTrees
+pub mod Contents

@@ -3,3 +3,4 @@ pub mod Tables
 pub mod Machine
 pub mod Layout
 pub mod Reading
+pub mod Stopless

@@ -119,45 +119,41 @@ module _ (layout : ℕ) (file : List ℕ) (w : Sizes) where
       let a = accepted-in r e z in
       left-in (a .0) (a .1) (a .2) t (r .tokens) l (counted-rows _ r _ _ e (a .2))
 
--- an old file
+-- in a layout or as an old file
 module _ (file : List ℕ) (w : Sizes) where
-  pub split-old : (ps : List Placed) (rows : Rows) → readOld file w ≡ accepted (ps, rows) → tokensOf file ≡ accepted ps
-  split-old = split-by oldHeaders old-usable old-split file w
+  pub number-via : (way : Way) → NotZero (readVia way file w)
+  number-via (in-layout layout) = number-in layout file w
+  number-via as-old = number-by oldHeaders old-usable old-split file w
 
-  pub holds-old : (ps : List Placed) (rows : Rows) → readOld file w ≡ accepted (ps, rows) → Holds file (holding tokenRow ps (w .tokens)) (length ps)
-  holds-old = holds-by oldHeaders old-usable old-split file w
+  module _ (ps : List Placed) (rows : Rows) where
+    pub split-via : (way : Way) → readVia way file w ≡ accepted (ps, rows) → tokensOf file ≡ accepted ps
+    split-via (in-layout layout) e = split-in layout file w ps rows e
+    split-via as-old e = split-by oldHeaders old-usable old-split file w ps rows e
 
-  pub number-old : NotZero (readOld file w)
-  number-old = number-by oldHeaders old-usable old-split file w
+    pub holds-via : (way : Way) → readVia way file w ≡ accepted (ps, rows) → Holds file (holding tokenRow ps (w .tokens)) (length ps)
+    holds-via (in-layout layout) e = holds-in layout file w ps rows e
+    holds-via as-old e = holds-by oldHeaders old-usable old-split file w ps rows e
 
-  pub accepted-old : (r : Answer) → r ≡ readAnswer (readOld file w) → r .refusal ≡ 0 → (ps : List Placed) × (rows : Rows) × (readOld file w ≡ accepted (ps, rows))
-  accepted-old = answer-rows (readOld file w) number-old
+    pub tokens-via : (way : Way) → readVia way file w ≡ accepted (ps, rows) → tokensOnly ps ≡ fileTokens file
+    unfolding placed
+    tokens-via way e = ap (λ s. tokensOnly (placed s)) (sym (split-via way e))
 
-  pub tokens-old : (ps : List Placed) (rows : Rows) → readOld file w ≡ accepted (ps, rows) → tokensOnly ps ≡ fileTokens file
-  tokens-old = tokens-by oldHeaders old-usable old-split file w
+    pub rows-via : (way : Way) → readVia way file w ≡ accepted (ps, rows) → (r : ReadingBy (wayRules way) (tokensOnly ps)) × (rows ≡ rowsOf (r .tree))
+    rows-via (in-layout layout) e =
+        let k = rows-of-reading (layoutRules layout) (layout-usable layout) file w ps rows (in-accepted layout file w (ps, rows) e .1) in (k .1, k .2)
+    rows-via as-old e = let k = rows-of-reading oldHeaders old-usable file w ps rows e in (k .1, k .2)
 
-  pub left-old : (ps : List Placed) (rows : Rows) → readOld file w ≡ accepted (ps, rows) → (t : Tables) (count : ℕ) → Leaves (readOld file w) w t → count ≡ length ps → Holds file (t .tokens) count
-  left-old ps rows e = left-by oldHeaders old-usable old-split file w ps rows e (readOld file w) e
+    -- table 1 as reading has left it holds the tokens
+    pub left-via : (way : Way) → readVia way file w ≡ accepted (ps, rows) → (t : Tables) (count : ℕ) → Leaves (readVia way file w) w t → count ≡ length ps → Holds file (t .tokens) count
+    unfolding tablesOf
+    left-via way e t count l c =
+        let table : t .tokens ≡ holding tokenRow ps (w .tokens) = l .tokens ∙ ap (λ o. tablesOf o w .tokens) e in
+        rw (table, c) (holds-via way e)
 
-  pub read-holds-old : (r : Answer) → r ≡ readAnswer (readOld file w) → (t : Tables) → Leaves (readOld file w) w t → r .refusal ≡ 0 → Holds file (t .tokens) (r .tokens)
-  read-holds-old r e t l z =
-      let a = accepted-old r e z in
-      left-old (a .0) (a .1) (a .2) t (r .tokens) l (counted-rows _ r _ _ e (a .2))
-
--- either way
-module _ (file : List ℕ) (w : Sizes) (ps : List Placed) (rows : Rows) where
-  pub split-via : (way : Way) → readVia way file w ≡ accepted (ps, rows) → tokensOf file ≡ accepted ps
-  split-via (in-layout layout) e = split-in layout file w ps rows e
-  split-via as-old e = split-old file w ps rows e
-
-  pub holds-via : (way : Way) → readVia way file w ≡ accepted (ps, rows) → Holds file (holding tokenRow ps (w .tokens)) (length ps)
-  holds-via (in-layout layout) e = holds-in layout file w ps rows e
-  holds-via as-old e = holds-old file w ps rows e
-
-  pub rows-via : (way : Way) → readVia way file w ≡ accepted (ps, rows) → (r : ReadingBy (wayRules way) (tokensOnly ps)) × (rows ≡ rowsOf (r .tree))
-  rows-via (in-layout layout) e =
-      let k = rows-of-reading (layoutRules layout) (layout-usable layout) file w ps rows (in-accepted layout file w (ps, rows) e .1) in (k .1, k .2)
-  rows-via as-old e = let k = rows-of-reading oldHeaders old-usable file w ps rows e in (k .1, k .2)
+  pub read-holds-via : (way : Way) (r : Answer) → r ≡ readAnswer (readVia way file w) → (t : Tables) → Leaves (readVia way file w) w t → r .refusal ≡ 0 → Holds file (t .tokens) (r .tokens)
+  read-holds-via way r e t l z =
+      let a = answer-rows (readVia way file w) (number-via way) r e z in
+      left-via (a .0) (a .1) way (a .2) t (r .tokens) l (counted-rows _ r _ _ e (a .2))
 
 pub answer-refused : (o : ReadOutcome) (r : Answer) → r ≡ readAnswer o → (r .refusal ≡ 0 → ⊥) → o ≡ refused (r .refusal) (r .place)
 unfolding readAnswer

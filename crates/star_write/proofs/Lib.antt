@@ -1,6 +1,8 @@
 pub mod Putting
 pub mod Lengths
 pub mod Prefix
+pub mod Keeping
 pub mod Outcomes
 pub mod RoundTrip
+pub mod StopsDropped
 pub mod Demand1

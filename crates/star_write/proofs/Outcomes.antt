@@ -1,12 +1,12 @@
 -- What an answer tells of the outcome. Reading's answer decides that of writing, with the length of the plain form; and from that answer follow the tables and the output. What is written of a reading is
 -- said for any row that is made of its tokens: writing has the row itself, converting that of the other layout, and dropping header stops that without them.
 use mathlib.Core.Path.{_≡_, refl, sym, _∙_, ap, subst}
-use mathlib.Core.Bool.{Bool, true, false, cond}
+use mathlib.Core.Bool.{Bool, false}
 use mathlib.Core.List.{List, _++_}
 use Prim.Native.Nat.{ℕ, _-_, _≤_, _<_}
 use native.Mathlib.Nat.{sub-zero}
 use native.Mathlib.Omega.{arith}
-use borrow.Author.Tests.{leb-true}
+use borrow.Author.Tests.{leb-true, le-leb, lt-leb}
 use lib.Dec.{leb}
 use lib.ListN.{length, replicate}
 use Rattle.star_text.specs.Outcome.{refused, accepted, then, need}
@@ -17,13 +17,14 @@ use Rattle.star_lex.specs.Tokens.{Token, Placed}
 use Rattle.star_lex.specs.Plain.{plainOf}
 use Rattle.star_lex.proofs.Cases.{impossible}
 use Rattle.star_grammar.specs.Tables.{Rows}
+use Rattle.star_grammar.specs.Stopless.{dropStops}
 use Rattle.star_lex.specs.Holds.{fileTokens}
-use Rattle.star_read.specs.Read.{FileRows, ReadOutcome, Sizes, tokensOnly, readIn, readOf}
-use Rattle.star_read.specs.Answer.{readAnswer, readingOf, Tables, Leaves}
+use Rattle.star_read.specs.Read.{FileRows, ReadOutcome, Sizes, tokensOnly, readIn, readOld, Way, readVia, readOf}
+use Rattle.star_read.specs.Answer.{readAnswer, readingOf, Tables, sizes, Leaves}
 use Rattle.star_read.specs.declared.Answer.{Answer}
-use Rattle.star_read.proofs.Accepted.{number-in, answer-rows, answer-refused, tokens-are}
-use Rattle.star_write.specs.Write.{Writing, written, plainFits, writeOf, writeIn}
-use Rattle.star_write.specs.Answer.{bytesOf, outputOf, writeAnswer, counted, fittedAnswer, Writes, WritesIn}
+use Rattle.star_read.proofs.Accepted.{number-in, answer-rows, answer-refused, tokens-are, number-via, tokens-via}
+use Rattle.star_write.specs.Write.{Writing, written, plainFits, writeOf, writeIn, dropOf, keptRow, writingOf}
+use Rattle.star_write.specs.Answer.{bytesOf, outputOf, writeAnswer, Leaving, Writes, WritesIn}
 use Rattle.star_write.specs.declared.Written.{Written}
 
 -- what is written after reading: the plain form of a row that is made of the tokens
@@ -59,32 +60,85 @@ pub wrote : (file : List ℕ) (words : Sizes) (room : ℕ) (ps : List Placed) (r
 unfolding writeOf
 wrote file words room ps rows plain e = wrote-by (readOf file words) (λ ts. ts) room ps rows plain e
 
+pub dropped : (file : List ℕ) (words : Sizes) (room : ℕ) (ps : List Placed) (rows : Rows) (plain : List ℕ) → dropOf file words room ≡ written ps rows plain
+    → Wrote (readOld file words) (dropStops false) room ps rows plain
+unfolding dropOf
+dropped file words room ps rows plain e = wrote-by (readOld file words) (dropStops false) room ps rows plain e
+
 -- today's layout is layout 0
 pub writes-today : (file : List ℕ) (before after : Tables) (room out : List ℕ) (r : Written) → WritesIn 0 file before after room out r → Writes file before after room out r
 unfolding writeIn writeOf readIn layoutRules need
 writes-today file before after room out r w = w
 
+-- the answer of a written file by reading's counts and the size
+abbrev pub counted : ℕ → Answer → Written
+counted size r = record {
+  refusal = 0;
+  place = 0;
+  length = size;
+  tokens = r .tokens;
+  sets = r .sets;
+  names = r .names;
+  packets = r .packets;
+  values = r .values;
+}
+
 -- what is answered after reading's answer, where the plain form of a row that is made of the tokens is this
 module _ (o : ReadOutcome) (row : List Token → List Token) (plain : List ℕ) (is : (ps : List Placed) (rows : Rows) → o ≡ accepted (ps, rows) → plainOf (row (tokensOnly ps)) ≡ plain)
     (r : Answer) (e : r ≡ readAnswer o) (room : ℕ) where
-  pub refuses-by : (r .refusal ≡ 0 → ⊥) → writingBy o row room ≡ refused (r .refusal) (r .place)
+  refuses-by : (r .refusal ≡ 0 → ⊥) → writingBy o row room ≡ refused (r .refusal) (r .place)
   unfolding then
   refuses-by f = rw (answer-refused o r e f)
 
-  pub fitted-by : NotZero o → r .refusal ≡ 0 → fittedAnswer r (length plain) room ≡ writeAnswer (writingBy o row room)
-  unfolding then plainFits need fittedAnswer writeAnswer readingOf bytesOf readAnswer
-  fitted-by f z =
-      let a : (ps : List Placed) × (rows : Rows) × (o ≡ accepted (ps, rows)) = answer-rows o f r e z in
-      let w : writingBy o row room ≡ plainFits room (a .0, a .1) plain
-      = ap (λ u. writingBy u row room) (a .2) ∙ ap (plainFits room (a .0, a .1)) (is (a .0) (a .1) (a .2)) in
-      by (leb (length plain) mostBytes) (leb (length plain) room) (a .0) (a .1) (e ∙ ap readAnswer (a .2)) ∙ sym (ap writeAnswer w)
-    where
-      by : (small fits : Bool) (ps : List Placed) (rows : Rows) → r ≡ readAnswer (accepted (ps, rows))
-          → cond small (cond fits (counted (length plain) r) (writeAnswer (refused 7 6))) (writeAnswer (refused 1 0))
-          ≡ writeAnswer (need small 1 0 (need fits 7 6 (written ps rows plain)))
-      by true true ps rows q = ap (counted (length plain)) q
-      by true false ps rows q = refl
-      by false fits ps rows q = refl
+  module _ (f : NotZero o) (z : r .refusal ≡ 0) where
+    accepts : (ps : List Placed) × (rows : Rows) × (o ≡ accepted (ps, rows))
+    accepts = answer-rows o f r e z
+
+    after-reading : writingBy o row room ≡ plainFits room (accepts .0, accepts .1) plain
+    unfolding then
+    after-reading = ap (λ u. writingBy u row room) (accepts .2) ∙ ap (plainFits room (accepts .0, accepts .1)) (is (accepts .0) (accepts .1) (accepts .2))
+
+    too-long : mostBytes < length plain → writingBy o row room ≡ refused 1 0
+    unfolding plainFits need
+    too-long h = rw (after-reading, lt-leb _ _ h)
+
+    too-short : length plain ≤ mostBytes → room < length plain → writingBy o row room ≡ refused 7 6
+    unfolding plainFits need
+    too-short h k = rw (after-reading, le-leb _ _ h, lt-leb _ _ k)
+
+    fits-output : length plain ≤ mostBytes → length plain ≤ room → counted (length plain) r ≡ writeAnswer (writingBy o row room)
+    unfolding plainFits need writeAnswer readingOf bytesOf readAnswer
+    fits-output h k =
+        let w : writingBy o row room ≡ written (accepts .0) (accepts .1) plain = rw (after-reading, le-leb _ _ h, le-leb _ _ k) in
+        ap (counted (length plain)) (e ∙ ap readAnswer (accepts .2)) ∙ sym (ap writeAnswer w)
+
+-- the plain form of what is kept of the tokens that are read is that of the file's tokens
+pub kept-via : (way : Way) (file : List ℕ) (words : Sizes) (without : Bool) (ps : List Placed) (rows : Rows) → readVia way file words ≡ accepted (ps, rows)
+    → plainOf (keptRow without (tokensOnly ps)) ≡ plainOf (keptRow without (fileTokens file))
+kept-via way file words without ps rows e = ap (λ ts. plainOf (keptRow without ts)) (tokens-via file words ps rows way e)
+
+-- so in a layout or as an old file
+module _ (way : Way) (file : List ℕ) (words : Sizes) (without : Bool) (r : Answer) (e : r ≡ readAnswer (readVia way file words)) (room : ℕ) where
+  abbrev form : List ℕ
+  form = plainOf (keptRow without (fileTokens file))
+
+  pub via-refused : (r .refusal ≡ 0 → ⊥) → writingOf (readVia way file words) without room ≡ refused (r .refusal) (r .place)
+  via-refused = refuses-by (readVia way file words) (keptRow without) form (kept-via way file words without) r e room
+
+  module _ (z : r .refusal ≡ 0) where
+    pub via-long : mostBytes < length form → writingOf (readVia way file words) without room ≡ refused 1 0
+    via-long = too-long (readVia way file words) (keptRow without) form (kept-via way file words without) r e room (number-via file words way) z
+
+    pub via-short : length form ≤ mostBytes → room < length form → writingOf (readVia way file words) without room ≡ refused 7 6
+    via-short = too-short (readVia way file words) (keptRow without) form (kept-via way file words without) r e room (number-via file words way) z
+
+    pub via-fits : length form ≤ mostBytes → length form ≤ room → counted (length form) r ≡ writeAnswer (writingOf (readVia way file words) without room)
+    via-fits = fits-output (readVia way file words) (keptRow without) form (kept-via way file words without) r e room (number-via file words way) z
+
+-- no answer of a refusal has the number 0
+pub refused-not : (n place : ℕ) (r : Written) → r ≡ writeAnswer (refused n place) → (n ≡ 0 → ⊥) → r .refusal ≡ 0 → ⊥
+unfolding writeAnswer readingOf bytesOf readAnswer
+refused-not n place r e f z = f (sym (ap (λ w. w .refusal) e) ∙ z)
 
 -- an answer of another number: the outcome is that refusal
 pub writing-refused : (o : Writing) (a : Written) → a ≡ writeAnswer o → (a .refusal ≡ 0 → ⊥) → o ≡ refused (a .refusal) (a .place)
@@ -187,3 +241,11 @@ module _ {layout : ℕ} {file : List ℕ} {words : Sizes} {room : ℕ} {a : Writ
 
   pub written-output : {out : List ℕ} → out ≡ plainOf (fileTokens file) ++ replicate (room - a .length) 0 → out ≡ outputOf (writeIn layout file words room) room
   written-output = output-by (d .reads) (d .outcome) room (d .size)
+
+-- tables of the same lengths have the same sizes, and what is left in either is the same
+pub same-sizes : (before mid : Tables) → length (mid .tokens) ≡ length (before .tokens) → length (mid .sets) ≡ length (before .sets) → length (mid .names) ≡ length (before .names)
+    → length (mid .packets) ≡ length (before .packets) → length (mid .values) ≡ length (before .values) → sizes before ≡ sizes mid
+same-sizes before mid a b c d e = sym (rw (a, b, c, d, e))
+
+pub leaving-at : {w : Writing} {before mid after : Tables} {room out : List ℕ} {r : Written} → sizes before ≡ sizes mid → Leaving w mid after room out r → Leaving w before after room out r
+leaving-at {w} {after = after} e l = record { answer = l .answer; leaves = subst (λ s. Leaves (readingOf w) s after) (sym e) (l .leaves); output = l .output }

@@ -1,4 +1,4 @@
--- The plain form of a file's first tokens: each token that a table holds goes behind those before it, within the whole.
+-- The plain form of the first tokens of a row: each token goes behind those before it, within the whole.
 use mathlib.Core.Path.{_≡_, sym, _∙_, ap}
 use mathlib.Core.List.{List, [], _∷_, _++_, flatMap, append-nil}
 use Prim.Native.Nat.{ℕ, _+_, _*_, _≤_, _<_}
@@ -35,27 +35,3 @@ pub plain-within : (n : ℕ) (ts : List Token) → length (plainFirst n ts) ≤ 
 plain-within n ts =
     let whole : plainFirst n ts ++ plainOf (drop n ts) ≡ plainOf ts = sym (plain-append (take n ts) (drop n ts)) ∙ ap plainOf (take-append-drop n ts) in
     omega (arith, simp length-append at (ap length whole))
-
--- one token more of a table, by its kind and content
-pub record Next (file : List ℕ) (n kind : ℕ) (content : List ℕ) : Type 0 where
-  pub plain : plainFirst (n + 1) (fileTokens file) ≡ plainFirst n (fileTokens file) ++ plainToken today (tokenOf kind content)
-  pub within : length (plainFirst (n + 1) (fileTokens file)) ≤ length (plainOf (fileTokens file))
-  pub sum : length (plainFirst (n + 1) (fileTokens file)) ≡ length (plainFirst n (fileTokens file)) + length (plainToken today (tokenOf kind content))
-  pub small : length content ≤ mostBytes
-
-module _ (file words : List ℕ) (count : ℕ) (h : Holds file words count) where
-  pub plain-all : (n : ℕ) → count ≤ n → plainFirst n (fileTokens file) ≡ plainOf (fileTokens file)
-  plain-all n g = ap plainOf (take-all n (fileTokens file) (omega (arith, count-tokens file words count h)))
-
-  pub next : (n : ℕ) → n < count → (content : List ℕ) → content ≡ orEmpty (contentIn file words n) → Next file n (getD words (n * 3) 0) content
-  next n below content c =
-      let r : Row file words n = held-row file words count h n below in
-      let e : content ≡ tokenAt file n .content = c ∙ held-content file words count h n below in
-      let plain : plainFirst (n + 1) (fileTokens file) ≡ plainFirst n (fileTokens file) ++ plainToken today (tokenOf (getD words (n * 3) 0) content) =
-      rw (r .kind, e) (plain-next n (fileTokens file) _ (omega (arith, count-tokens file words count h))) in
-      record {
-        plain = plain;
-        within = plain-within (n + 1) (fileTokens file);
-        sum = ap length plain ∙ simp length-append;
-        small = rw (e, ← (r .content)) (simp (length-take, length-drop) (omega (arith, h .small)));
-      }

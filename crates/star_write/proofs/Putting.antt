@@ -20,18 +20,6 @@ put-none at room = record { ends = sym (add-zero at); leaves = rw (add-zero, app
 pub fill-none : (room : List ℕ) → Filled [] room room 0
 fill-none room = record { counts = refl; leaves = refl }
 
--- bytes at the start of what is left from a place on, which is lent and comes back
-pub put-rest : {bytes rest : List ℕ} {more : ℕ} (at : ℕ) (room : List ℕ) → Filled bytes (take (length room - at) (drop at room)) rest more
-    → Put bytes at room (take at room ++ (rest ++ drop (length room - at) (drop at room))) (at + more)
-put-rest {bytes} {rest} at room q =
-    let short : length (drop at room) ≤ length room - at = omega (arith, length-drop at room) in
-    record {
-      ends = ap (λ n. at + n) (q .counts);
-      leaves =
-          ap (λ l. take at room ++ (rest ++ l)) (drop-of-length-le (drop at room) short)
-          ∙ rw (append-nil, q .leaves, take-all (length room - at) (drop at room) short, drop-drop (length bytes) at room) (sym (append-assoc (take at room) bytes _));
-    }
-
 -- past those bytes all is cleared
 pub fill-clear : (bytes room : List ℕ) (size : ℕ) {filled cleared : List ℕ} → size ≡ length bytes → size ≤ length room
     → filled ≡ bytes ++ drop (length bytes) room → cleared ≡ clearedFrom size filled → cleared ≡ bytes ++ replicate (length room - size) 0

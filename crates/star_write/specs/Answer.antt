@@ -1,15 +1,12 @@
--- What writing answers, and what it leaves in the lent tables and the output: specification 12.6 and 12.7. Believed; the contracts of `write` and `write_layout`, converting and the demands cite it.
+-- What writing answers, and what it leaves in the lent tables and the output: specification 12.6 and 12.7. Believed; the contracts of `write`, `write_layout` and `drop_header_stops`, converting and the demands cite it.
 use mathlib.Core.Path.{_≡_}
-use mathlib.Core.Bool.{cond}
 use mathlib.Core.List.{List, [], _++_}
 use Prim.Native.Nat.{ℕ, _-_}
-use lib.Dec.{leb}
 use lib.ListN.{length, replicate}
 use Rattle.star_text.specs.Outcome.{refused, accepted}
-use Rattle.star_text.specs.Bytes.{mostBytes}
 use Rattle.star_read.specs.Answer.{readAnswer, readingOf, Tables, sizes, Leaves}
 use Rattle.star_read.specs.declared.Answer.{Answer}
-use Rattle.star_write.specs.Write.{Writing, writeOf, writeIn}
+use Rattle.star_write.specs.Write.{Writing, writeOf, writeIn, dropOf}
 use Rattle.star_write.specs.declared.Written.{Written}
 
 -- the bytes that are written
@@ -36,23 +33,6 @@ writeAnswer w =
       values = r .values;
     }
 
--- the answer where so many bytes are written, by that of reading
-abbrev pub counted : ℕ → Answer → Written
-counted size r = record {
-  refusal = 0;
-  place = 0;
-  length = size;
-  tokens = r .tokens;
-  sets = r .sets;
-  names = r .names;
-  packets = r .packets;
-  values = r .values;
-}
-
--- after reading has accepted: 1 if so many bytes are over the size limit, then 7 with place 6 if the output, of so many, is too short
-unfoldable pub fittedAnswer : Answer → (size room : ℕ) → Written
-fittedAnswer r size room = cond (leb size mostBytes) (cond (leb size room) (counted size r) (writeAnswer (refused 7 6))) (writeAnswer (refused 1 0))
-
 -- the answer, every word of the five tables and every byte of the output are an outcome's
 pub record Leaving (w : Writing) (before after : Tables) (room out : List ℕ) (r : Written) : Type 0 where
   pub answer : r ≡ writeAnswer w
@@ -66,3 +46,7 @@ Writes file before after room out r = Leaving (writeOf file (sizes before) (leng
 -- and in a layout
 abbrev pub WritesIn : (layout : ℕ) (file : List ℕ) (before after : Tables) (room out : List ℕ) → Written → Type 0
 WritesIn layout file before after room out r = Leaving (writeIn layout file (sizes before) (length room)) before after room out r
+
+-- the contract of dropping header stops: the tables hold the reading of the old file
+abbrev pub DropsStops : (file : List ℕ) (before after : Tables) (room out : List ℕ) → Written → Type 0
+DropsStops file before after room out r = Leaving (dropOf file (sizes before) (length room)) before after room out r

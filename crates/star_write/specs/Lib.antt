@@ -1,4 +1,5 @@
 pub mod Write
 pub mod Answer
 pub mod Put
+pub mod Kept
 pub mod Demands

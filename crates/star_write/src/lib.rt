@@ -1,4 +1,4 @@
-// Writing the plain form of a STAR File, of either layout, into lent bytes.
+// Writing the plain form of a STAR File, of either layout, or of an old file without its header stops, into lent bytes.
 mod plain;
 pub mod room;
 pub mod token;
@@ -10,11 +10,12 @@ ghost use Prim.Native.Nat.{ℕ, _-_, _≤_};
 ghost use lib.ListN.{length, replicate};
 ghost use Rattle.star_lex.specs.Plain.{plainOf};
 ghost use Rattle.star_lex.specs.Holds.{Holds, fileTokens};
-ghost use Rattle.star_read.specs.Read.{Sizes, readIn};
+ghost use Rattle.star_read.specs.Read.{Sizes, Way, readVia};
 ghost use Rattle.star_text.specs.Outcome.{refused};
 ghost use Rattle.star_read.specs.Answer.{readAnswer, tables, sizes, Leaves};
-ghost use Rattle.star_write.specs.Write.{writeIn};
-ghost use Rattle.star_write.specs.Answer.{writeAnswer, fittedAnswer, Writes, WritesIn};
+ghost use Rattle.star_write.specs.Write.{keptRow, writingOf};
+ghost use Rattle.star_write.specs.Kept.{Sized};
+ghost use Rattle.star_write.specs.Answer.{writeAnswer, Leaving, Writes, WritesIn, DropsStops};
 
 // What writing answers: refusal and place, both 0 when written, the length of the plain form, and the number of rows of each table.
 #[repr(C)]
@@ -30,7 +31,7 @@ pub struct Written {
 }
 
 // A refusal: length and counts are 0.
-pub fn refusing(refusal: u32, place: u32) -> Written
+fn refusing(refusal: u32, place: u32) -> Written
     ensures { λ r. ⌜ r ≡ writeAnswer (refused refusal place) ⌝ }
 {
     Written {
@@ -45,10 +46,17 @@ pub fn refusing(refusal: u32, place: u32) -> Written
     }
 }
 
-// What a call that writes answers after reading has accepted, where so many bytes are to be written: refusal 1 if they are too many, then 7 if the output is too short.
-pub fn fitted(reading: Answer, size: usize, room: usize) -> Written
-    ensures { λ r. ⌜ r ≡ fittedAnswer reading size room ⌝ }
+// What writing answers after reading has answered: refusal 1 if the plain form is too long, then 7 if the output is too short.
+fn answer(file: &[u8], tokens: &[u32], reading: Answer, room: usize, without: bool) -> Written
+    requires { ⌜ (reading .refusal ≡ 0 → Holds (now file) (now tokens) (reading .tokens)) ⌝ }
+    ensures { λ r. ⌜ ((way : Way) (words : Sizes) → reading ≡ readAnswer (readVia way (now (file .entry)) words)
+        → r ≡ writeAnswer (writingOf (readVia way (now (file .entry)) words) without room)) ⌝ }
+    ensures { λ r. ⌜ (r .refusal ≡ 0 → Sized (now (file .entry)) without reading room r) ⌝ }
 {
+    if reading.refusal != 0 {
+        return refusing(reading.refusal, reading.place);
+    }
+    let size = plain::plain_length(file, tokens, reading.tokens as usize, without);
     if size > star_text::MOST_BYTES {
         return refusing(1, 0);
     }
@@ -67,21 +75,8 @@ pub fn fitted(reading: Answer, size: usize, room: usize) -> Written
     }
 }
 
-// What writing answers after reading has answered.
-fn answer(file: &[u8], tokens: &[u32], reading: Answer, room: usize) -> Written
-    requires { ⌜ (reading .refusal ≡ 0 → Holds (now file) (now tokens) (reading .tokens)) ⌝ }
-    ensures { λ r. ⌜ ((layout : ℕ) (words : Sizes) → reading ≡ readAnswer (readIn layout (now (file .entry)) words)
-        → r ≡ writeAnswer (writeIn layout (now (file .entry)) words room)) ⌝ }
-{
-    if reading.refusal != 0 {
-        return refusing(reading.refusal, reading.place);
-    }
-    let size = plain::plain_length(file, tokens, reading.tokens as usize);
-    fitted(reading, size, room)
-}
-
 // Sets every word of the five tables and every byte of the output to 0, as every refusal leaves them.
-pub fn clear_all(
+fn clear_all(
     tokens: &mut [u32],
     sets: &mut [u32],
     names: &mut [u32],
@@ -99,14 +94,51 @@ pub fn clear_all(
 }
 
 // Writes the plain form, of that size, of a file whose tokens table 1 holds; bytes past it are 0.
-fn put_plain(file: &[u8], tokens: &[u32], count: usize, size: usize, out: &mut [u8])
+fn put_plain(file: &[u8], tokens: &[u32], count: usize, size: usize, out: &mut [u8], without: bool)
     requires { ⌜ Holds (now file) (now tokens) count ⌝ }
-    requires { ⌜ size ≡ length (plainOf (fileTokens (now file))) ⌝ }
+    requires { ⌜ size ≡ length (plainOf (keptRow without (fileTokens (now file)))) ⌝ }
     requires { ⌜ size ≤ length (now out) ⌝ }
-    ensures { λ _. ⌜ now (out .exit) ≡ plainOf (fileTokens (now (file .entry))) ++ replicate (length (now (out .entry)) - size) 0 ⌝ }
+    ensures { λ _. ⌜ now (out .exit) ≡ plainOf (keptRow without (fileTokens (now (file .entry)))) ++ replicate (length (now (out .entry)) - size) 0 ⌝ }
 {
-    plain::put_tokens(file, tokens, count, out);
+    plain::put_tokens(file, tokens, count, out, without);
     room::clear_bytes(out, size);
+}
+
+// Writes the plain form, with header stops or without, of a file that was read into the five tables. On a refusal length, counts, tables and output are all 0.
+fn finish(
+    file: &[u8],
+    reading: Answer,
+    tokens: &mut [u32],
+    sets: &mut [u32],
+    names: &mut [u32],
+    packets: &mut [u32],
+    values: &mut [u32],
+    out: &mut [u8],
+    without: bool,
+) -> Written
+    requires { ⌜ (reading .refusal ≡ 0 → Holds (now file) (now tokens) (reading .tokens)) ⌝ }
+    ensures { λ r. ⌜ ((way : Way) (words : Sizes) → reading ≡ readAnswer (readVia way (now (file .entry)) words)
+        → words ≡ sizes (tables (now (tokens .entry)) (now (sets .entry)) (now (names .entry)) (now (packets .entry)) (now (values .entry)))
+        → Leaves (readVia way (now (file .entry)) words) words (tables (now (tokens .entry)) (now (sets .entry)) (now (names .entry)) (now (packets .entry)) (now (values .entry)))
+        → Leaving (writingOf (readVia way (now (file .entry)) words) without (length (now (out .entry))))
+        (tables (now (tokens .entry)) (now (sets .entry)) (now (names .entry)) (now (packets .entry)) (now (values .entry)))
+        (tables (now (tokens .exit)) (now (sets .exit)) (now (names .exit)) (now (packets .exit)) (now (values .exit)))
+        (now (out .entry)) (now (out .exit)) r) ⌝ }
+{
+    let written = answer(file, tokens, reading, out.len(), without);
+    if written.refusal != 0 {
+        clear_all(tokens, sets, names, packets, values, out);
+        return written;
+    }
+    put_plain(
+        file,
+        tokens,
+        written.tokens as usize,
+        written.length as usize,
+        out,
+        without,
+    );
+    written
 }
 
 // Reads a file of a layout into the five tables and writes its plain form in that layout: 0 is today's, 1 that of 1991, and any other number is refused before all else. On a refusal
@@ -127,19 +159,46 @@ pub fn write_layout(
         (now (out .entry)) (now (out .exit)) r ⌝ }
 {
     let reading = star_read::read_layout(file, layout, tokens, sets, names, packets, values);
-    let written = answer(file, tokens, reading, out.len());
-    if written.refusal != 0 {
-        clear_all(tokens, sets, names, packets, values, out);
-        return written;
-    }
-    put_plain(
+    finish(
         file,
+        reading,
         tokens,
-        written.tokens as usize,
-        written.length as usize,
+        sets,
+        names,
+        packets,
+        values,
         out,
-    );
-    written
+        false,
+    )
+}
+
+// Reads an old file, whose loops may have header stops, into the five tables, and writes its plain form without the header stops. On a refusal length, counts, tables and output are all 0.
+pub fn drop_header_stops(
+    file: &[u8],
+    tokens: &mut [u32],
+    sets: &mut [u32],
+    names: &mut [u32],
+    packets: &mut [u32],
+    values: &mut [u32],
+    out: &mut [u8],
+) -> Written
+    ensures { λ r. ⌜ DropsStops (now (file .entry))
+        (tables (now (tokens .entry)) (now (sets .entry)) (now (names .entry)) (now (packets .entry)) (now (values .entry)))
+        (tables (now (tokens .exit)) (now (sets .exit)) (now (names .exit)) (now (packets .exit)) (now (values .exit)))
+        (now (out .entry)) (now (out .exit)) r ⌝ }
+{
+    let reading = star_read::read_old(file, tokens, sets, names, packets, values);
+    finish(
+        file,
+        reading,
+        tokens,
+        sets,
+        names,
+        packets,
+        values,
+        out,
+        true,
+    )
 }
 
 // Reads a file of today's layout into the five tables and writes its plain form. On a refusal length, counts, tables and output are all 0.

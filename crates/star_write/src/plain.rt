@@ -1,25 +1,85 @@
-// The plain form of a file's tokens.
+// The plain form of a file's tokens, with header stops or without.
 use super::token;
 ghost use mathlib.Core.Path.{_≡_};
 ghost use mathlib.Core.List.{_++_};
-ghost use Prim.Native.Nat.{_≤_};
+ghost use Prim.Native.Nat.{_*_, _≤_};
 ghost use lib.ListN.{length, drop};
 ghost use Rattle.star_lex.specs.Plain.{plainOf};
 ghost use Rattle.star_lex.specs.Holds.{Holds, fileTokens};
+ghost use Rattle.star_write.specs.Write.{keptRow};
+ghost use Rattle.star_write.specs.Put.{Filled};
+ghost use Rattle.star_write.specs.Kept.{keptPlain, OfTokens, headedAt, isDropped};
 
 // The words of a row of table 1.
 const WIDTH: usize = star_rows::TOKEN_WIDTH as usize;
 
+// The kinds of `stop_` and of names.
+const STOP: u32 = 5;
+
+const NAME: u32 = 6;
+
+// Whether a name or a header stop stands directly before a row of table 1: `stop_` is passed over, since it stands after one exactly where the tokens before it do.
+fn is_headed(tokens: &[u32], n: usize) -> bool
+    requires { ⌜ n * 3 ≤ length (now tokens) ⌝ }
+    ensures { λ r. ⌜ OfTokens (now (tokens .entry)) n (λ ts. r ≡ headedAt n ts) ⌝ }
+{
+    let mut m = n;
+    while m > 0 {
+        m -= 1;
+        let kind = tokens[m * WIDTH];
+        if kind != STOP {
+            return kind == NAME;
+        }
+    }
+    false
+}
+
+// Whether a row of table 1, of this kind, is a header stop that is dropped.
+fn is_dropped(tokens: &[u32], n: usize, kind: u32, without: bool) -> bool
+    requires { ⌜ n * 3 ≤ length (now tokens) ⌝ }
+    ensures { λ r. ⌜ OfTokens (now (tokens .entry)) n (λ ts. r ≡ isDropped without n kind ts) ⌝ }
+{
+    if kind != STOP {
+        return false;
+    }
+    if without {
+        return is_headed(tokens, n);
+    }
+    false
+}
+
+// How many bytes a token takes: none if it is dropped.
+fn kept_length(dropped: bool, kind: u32, content: &[u8]) -> usize
+    ensures { λ r. ⌜ r ≡ length (keptPlain dropped kind (now (content .entry))) ⌝ }
+{
+    if dropped {
+        return 0;
+    }
+    token::token_length(kind, content)
+}
+
+// Writes a token, unless it is dropped, at the start of the room that is left, and answers how many bytes. It is called by proved layers only, which lend room enough.
+fn put_kept(out: &mut [u8], dropped: bool, kind: u32, content: &[u8]) -> usize
+    requires { ⌜ length (keptPlain dropped kind (now content)) ≤ length (now out) ⌝ }
+    ensures { λ r. ⌜ Filled (keptPlain dropped kind (now (content .entry))) (now (out .entry)) (now (out .exit)) r ⌝ }
+{
+    if dropped {
+        return 0;
+    }
+    token::put_token(out, kind, content)
+}
+
 // How many bytes the tokens take. It is called by proved layers only, which hand it table 1 of the file.
-pub(crate) fn plain_length(file: &[u8], tokens: &[u32], count: usize) -> usize
+pub(crate) fn plain_length(file: &[u8], tokens: &[u32], count: usize, without: bool) -> usize
     requires { ⌜ Holds (now file) (now tokens) count ⌝ }
-    ensures { λ r. ⌜ r ≡ length (plainOf (fileTokens (now (file .entry)))) ⌝ }
+    ensures { λ r. ⌜ r ≡ length (plainOf (keptRow without (fileTokens (now (file .entry))))) ⌝ }
 {
     let mut total: usize = 0;
     let mut n = 0;
     while n < count {
         let kind = tokens[n * WIDTH];
-        total += token::token_length(kind, star_lex::content(file, tokens, n));
+        let dropped = is_dropped(tokens, n, kind, without);
+        total += kept_length(dropped, kind, star_lex::content(file, tokens, n));
         n += 1;
     }
     total
@@ -27,18 +87,19 @@ pub(crate) fn plain_length(file: &[u8], tokens: &[u32], count: usize) -> usize
 
 // Writes the tokens in order, each into the room that is left. It is called by proved layers only, which hand it table 1 of the file and lend room
 // enough.
-pub(crate) fn put_tokens(file: &[u8], tokens: &[u32], count: usize, out: &mut [u8])
+pub(crate) fn put_tokens(file: &[u8], tokens: &[u32], count: usize, out: &mut [u8], without: bool)
     requires { ⌜ Holds (now file) (now tokens) count ⌝ }
-    requires { ⌜ length (plainOf (fileTokens (now file))) ≤ length (now out) ⌝ }
-    ensures { λ _. ⌜ now (out .exit) ≡ plainOf (fileTokens (now (file .entry)))
-        ++ drop (length (plainOf (fileTokens (now (file .entry))))) (now (out .entry)) ⌝ }
+    requires { ⌜ length (plainOf (keptRow without (fileTokens (now file)))) ≤ length (now out) ⌝ }
+    ensures { λ _. ⌜ now (out .exit) ≡ plainOf (keptRow without (fileTokens (now (file .entry))))
+        ++ drop (length (plainOf (keptRow without (fileTokens (now (file .entry)))))) (now (out .entry)) ⌝ }
 {
     let mut at = 0;
     let mut n = 0;
     while n < count {
         let kind = tokens[n * WIDTH];
         let content = star_lex::content(file, tokens, n);
-        at += token::put_token(&mut out[at..], kind, content);
+        let dropped = is_dropped(tokens, n, kind, without);
+        at += put_kept(&mut out[at..], dropped, kind, content);
         n += 1;
     }
 }

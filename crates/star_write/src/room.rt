@@ -32,7 +32,7 @@ pub fn put_within(out: &mut [u8], at: usize, bytes: &[u8]) -> usize
 }
 
 // Sets every byte from `from` on to 0.
-pub fn clear_bytes(out: &mut [u8], from: usize)
+pub(crate) fn clear_bytes(out: &mut [u8], from: usize)
     ensures { λ _. ⌜ now (out .exit) ≡ clearedFrom from (now (out .entry)) ⌝ }
 {
     let mut at = from;

@@ -9,7 +9,7 @@ ghost use Rattle.star_lex.specs.Rules.{today};
 ghost use Rattle.star_lex.specs.Tokens.{opening};
 ghost use Rattle.star_lex.specs.Split.{starts};
 ghost use Rattle.star_lex.specs.Plain.{ends, closing, indent, plainToken};
-ghost use Rattle.star_write.specs.Put.{Put, within, Filled, tokenOf};
+ghost use Rattle.star_write.specs.Put.{Put, Filled, tokenOf};
 
 // Whether a token is a kind 7 word that begins with `;`: at a line's start it would open a text field.
 fn is_indented(kind: u32, content: &[u8]) -> bool
@@ -146,17 +146,4 @@ pub fn token_length(kind: u32, content: &[u8]) -> usize
 {
     let start = indent_length(kind, content) + star_lex::word::lead(kind);
     start + content.len() + closing_length(kind, content) + 1
-}
-
-// Writes a token at a place, and answers the place after it; where the room ends before that, nothing is put.
-pub fn put_token_within(out: &mut [u8], at: usize, kind: u32, content: &[u8]) -> usize
-    ensures { λ r. ⌜ Put (within (length (now (out .entry))) at (plainToken today (tokenOf kind (now (content .entry))))) at (now (out .entry)) (now (out .exit)) r ⌝ }
-{
-    if out.len() < at {
-        return at;
-    }
-    if out.len() - at < token_length(kind, content) {
-        return at;
-    }
-    at + put_token(&mut out[at..], kind, content)
 }

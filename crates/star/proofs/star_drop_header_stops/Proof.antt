@@ -1,4 +1,4 @@
--- `star_drop_header_stops` is `drop_header_stops` of star_stops, with its contract.
+-- `star_drop_header_stops` is `drop_header_stops` of star_write, with its contract.
 use borrow.Author.Needs.{needs}
 use Rattle.star.proofs.star_drop_header_stops.Statement.{statement}
 use Rattle.star.proofs.star_drop_header_stops.Tie as tie

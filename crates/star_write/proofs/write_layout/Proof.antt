@@ -1,166 +1,68 @@
--- `write_layout` meets its contract: the answer is the outcome's, by reading's; a refusal clears all, and else the tables are as reading left them and the
--- output has the plain form.
-use mathlib.Core.Path.{_≡_, _∙_}
+-- `write_layout` meets its contract: what is read is written by `finish`.
+use mathlib.Core.Path.{_≡_, refl, _∙_}
 use borrow.Author.Needs.{needs}
-use lib.ListN.{length}
-use Rattle.star_text.specs.Outcome.{refused}
-use Rattle.star_read.specs.Read.{Sizes}
-use Rattle.star_read.specs.Answer.{tables, sizes, tablesOf}
-use Rattle.star_write.specs.Write.{Writing, writeIn}
-use Rattle.star_write.specs.Answer.{writeAnswer}
-use Rattle.star_read.proofs.Accepted.{read-holds-in, left-in}
-use Rattle.star_write.proofs.Outcomes.{writing-refused, Success, success, zeros, refused-tables, refused-output, written-tables, written-output}
+use Rattle.star_read.specs.Read.{Sizes, in-layout}
+use Rattle.star_read.specs.Answer.{tables, sizes, Tables}
+use Rattle.star_read.proofs.Accepted.{read-holds-via}
+use Rattle.star_write.specs.Write.{writeIn}
+use Rattle.star_write.proofs.Outcomes.{same-sizes, leaving-at}
 use Rattle.star_write.proofs.write_layout.Statement.{statement}
 use Rattle.star_write.proofs.write_layout.Tie as tie
 
--- the entry, and the calls of `read` and `answer`, seen from the places after them
-abbrev entry : tie.After-read-layout → tie.Start
-entry c = c .before .before .before .before .before .before .before .before .before .before .before .before .before
+-- the entry, and the call of `read_layout`, seen from the places after them
+abbrev start : tie.After-read-layout → tie.Start
+start c = c .before .before .before .before .before .before .before .before .before .before .before .before .before
 
-abbrev reading : tie.After-answer-arg → tie.After-read-layout
-reading c = c .before .before .before .before .before .before .before .before .before .before .before
+abbrev asked : tie.After-finish-arg6 → tie.After-read-layout
+asked c = c .before .before .before .before .before .before .before .before .before .before .before .before .before .before .before .before
 
-abbrev read : tie.After-answer → tie.After-read-layout
-read c = reading (c .before)
+abbrev finished : tie.After-slice-known17 → tie.After-finish
+finished c = c .before .before .before .before .before .before .before .before .before .before .before .before
 
-abbrev start : tie.After-answer → tie.Start
-start c = entry (read c)
+-- the tables before
+abbrev old : tie.After-read-layout → Tables
+old c =
+    let args = start c .args in
+    tables (args .tokens .now) (args .sets .now) (args .names .now) (args .packets .now) (args .values .now)
 
-abbrev cleared : tie.After-slice-known17 → tie.After-clear-all
-cleared c = c .before .before .before .before .before .before .before .before .before .before .before .before
-
-abbrev refusing : tie.After-clear-all → tie.Then1
-refusing c = c .before .before .before .before .before .before .before
-
-abbrev writing : tie.After-put-plain-arg2 → tie.Else1
-writing c = c .before .before .before .before
-
-abbrev put : tie.After-slice-known18 → tie.After-put-plain
-put c = c .before .before
-
--- the words of the five tables
-abbrev words : tie.Start → Sizes
-words c = sizes (tables (c .args .tokens .now) (c .args .sets .now) (c .args .names .now) (c .args .packets .now) (c .args .values .now))
-
-abbrev outcome : tie.Start → Writing
-outcome c = writeIn (c .args .layout) (c .args .file .now) (words c) (length (c .args .out .now))
-
--- the answer is the outcome's: a refusal, or else the file is written
-answered : (c : tie.After-answer) → c .answer .result ≡ writeAnswer (outcome (start c))
-answered c = c .answer .ensures (start c .args .layout) (words (start c)) (read c .read-layout .ensures .answer)
-
-refuses : (c : tie.Then1)
-    → outcome (start (c .before .before)) ≡ refused (c .before .before .answer .result .refusal) (c .before .before .answer .result .place)
-refuses c = writing-refused _ _ (answered (c .before .before)) (c .if1 .taken)
-
-writes : (c : tie.Else1)
-    → Success (start (c .before .before) .args .layout) (start (c .before .before) .args .file .now) (words (start (c .before .before))) (length (start (c .before .before) .args .out .now)) (c .before .before .answer .result)
-writes c = success _ _ _ _ _ (answered (c .before .before)) (c .if1 .left)
+-- and after reading
+abbrev new : tie.After-read-layout → Tables
+new c =
+    let last = c .read-layout .last .1 .1 in
+    tables (last .0) (last .1 .0) (last .1 .1 .0) (last .1 .1 .1 .0) (last .1 .1 .1 .1 .0)
 
 read-layout-requires : tie.Need-read-layout-requires
 read-layout-requires c κs = tt
 
-answer-requires : tie.Need-answer-requires
-answer-requires c κs = read-holds-in _ _ (words (entry (reading c))) _ (reading c .read-layout .ensures .answer) _ (reading c .read-layout .ensures .leaves)
-
-clear-all-requires : tie.Need-clear-all-requires
-clear-all-requires c κs = tt
+finish-requires : tie.Need-finish-requires
+finish-requires c κs = read-holds-via _ (sizes (old (asked c))) (in-layout (start (asked c) .args .layout)) _ (asked c .read-layout .ensures .answer) _ (asked c .read-layout .ensures .leaves)
 
 same-length : tie.Need-same-length
-same-length c = cleared c .clear-all .kept .0 ∙ read (refusing (cleared c) .before .before) .read-layout .kept .1 .1 .0
+same-length c = finished c .finish .kept .1 .1 .0 ∙ asked (finished c .before) .read-layout .kept .1 .1 .0
 
 same-length-2 : tie.Need-same-length-2
-same-length-2 c = cleared c .clear-all .kept .1 .0 ∙ read (refusing (cleared c) .before .before) .read-layout .kept .1 .1 .1 .0
+same-length-2 c = finished c .finish .kept .1 .1 .1 .0 ∙ asked (finished c .before) .read-layout .kept .1 .1 .1 .0
 
 same-length-3 : tie.Need-same-length-3
-same-length-3 c = cleared c .clear-all .kept .1 .1 .0 ∙ read (refusing (cleared c) .before .before) .read-layout .kept .1 .1 .1 .1 .0
+same-length-3 c = finished c .finish .kept .1 .1 .1 .1 .0 ∙ asked (finished c .before) .read-layout .kept .1 .1 .1 .1 .0
 
 same-length-4 : tie.Need-same-length-4
-same-length-4 c = cleared c .clear-all .kept .1 .1 .1 .0 ∙ read (refusing (cleared c) .before .before) .read-layout .kept .1 .1 .1 .1 .1 .0
+same-length-4 c = finished c .finish .kept .1 .1 .1 .1 .1 .0 ∙ asked (finished c .before) .read-layout .kept .1 .1 .1 .1 .1 .0
 
 same-length-5 : tie.Need-same-length-5
-same-length-5 c = cleared c .clear-all .kept .1 .1 .1 .1 .0 ∙ read (refusing (cleared c) .before .before) .read-layout .kept .1 .1 .1 .1 .1 .1 .0
+same-length-5 c = finished c .finish .kept .1 .1 .1 .1 .1 .1 .0 ∙ asked (finished c .before) .read-layout .kept .1 .1 .1 .1 .1 .1 .0
 
 same-length-6 : tie.Need-same-length-6
-same-length-6 c = cleared c .clear-all .kept .1 .1 .1 .1 .1 .0
+same-length-6 c = finished c .finish .kept .1 .1 .1 .1 .1 .1 .1 .0
 
 returns : tie.Need-returns
-unfolding tablesOf
+unfolding writeIn
 returns c =
-    let then = refusing (cleared c) in
-    let kept = read (then .before .before) .read-layout .kept in
-    let zero = cleared c .clear-all .ensures .0 0 0 in
-    record {
-      answer = answered (then .before .before);
-      leaves = refused-tables (refuses then) (record {
-        tokens = zeros (kept .1 .1 .0) (zero .tokens);
-        sets = zeros (kept .1 .1 .1 .0) (zero .sets);
-        names = zeros (kept .1 .1 .1 .1 .0) (zero .names);
-        packets = zeros (kept .1 .1 .1 .1 .1 .0) (zero .packets);
-        values = zeros (kept .1 .1 .1 .1 .1 .1 .0) (zero .values);
-      });
-      output = refused-output _ (refuses then) (cleared c .clear-all .ensures .1);
-    }
-
-cast-put-plain : tie.Need-cast-put-plain
-cast-put-plain c = search needs
-
-cast-put-plain-2 : tie.Need-cast-put-plain-2
-cast-put-plain-2 c = search needs
-
-put-plain-requires : tie.Need-put-plain-requires
-put-plain-requires c κs =
-    let w = writes (writing c) in
-    (left-in _ _ _ (w .ps) (w .rows) (w .reads) _ _ (read (writing c .before .before) .read-layout .ensures .leaves) (w .count), (w .size, w .fits))
-
-same-length-7 : tie.Need-same-length-7
-same-length-7 c = read (writing (put c .before) .before .before) .read-layout .kept .1 .1 .0
-
-same-length-8 : tie.Need-same-length-8
-same-length-8 c = read (writing (put c .before) .before .before) .read-layout .kept .1 .1 .1 .0
-
-same-length-9 : tie.Need-same-length-9
-same-length-9 c = read (writing (put c .before) .before .before) .read-layout .kept .1 .1 .1 .1 .0
-
-same-length-10 : tie.Need-same-length-10
-same-length-10 c = read (writing (put c .before) .before .before) .read-layout .kept .1 .1 .1 .1 .1 .0
-
-same-length-11 : tie.Need-same-length-11
-same-length-11 c = read (writing (put c .before) .before .before) .read-layout .kept .1 .1 .1 .1 .1 .1 .0
-
-same-length-12 : tie.Need-same-length-12
-same-length-12 c = put c .put-plain .kept .1 .1 .1 .1 .0
-
-returns-2 : tie.Need-returns-2
-returns-2 c =
-    let w = writing (put c .before) in
-    record {
-      answer = answered (w .before .before);
-      leaves = written-tables (writes w) (read (w .before .before) .read-layout .ensures .leaves);
-      output = written-output (writes w) (put c .put-plain .ensures);
-    }
+    let done = finished c in
+    let read = asked (done .before) in
+    let kept = read .read-layout .kept in
+    let same = same-sizes (old read) (new read) (kept .1 .1 .0) (kept .1 .1 .1 .0) (kept .1 .1 .1 .1 .0) (kept .1 .1 .1 .1 .1 .0) (kept .1 .1 .1 .1 .1 .1 .0) in
+    leaving-at same (done .finish .ensures (in-layout (start read .args .layout)) (sizes (old read)) (read .read-layout .ensures .answer) same (read .read-layout .ensures .leaves))
 
 pub write-layout-spec : {M : Type 1} → statement M
-write-layout-spec =
-    tie.close
-    (tie.spec
-    read-layout-requires
-    answer-requires
-    clear-all-requires
-    same-length
-    same-length-2
-    same-length-3
-    same-length-4
-    same-length-5
-    same-length-6
-    returns
-    cast-put-plain
-    cast-put-plain-2
-    put-plain-requires
-    same-length-7
-    same-length-8
-    same-length-9
-    same-length-10
-    same-length-11
-    same-length-12
-    returns-2)
+write-layout-spec = tie.close (tie.spec read-layout-requires finish-requires same-length same-length-2 same-length-3 same-length-4 same-length-5 same-length-6 returns)

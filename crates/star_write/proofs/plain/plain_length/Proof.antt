@@ -1,6 +1,5 @@
--- `plain_length` meets its contract: the sum so far is the length of the plain form of the tokens passed, of which none is longer than the
--- file and nine bytes.
-use mathlib.Core.Path.{_≡_, refl, _∙_, ap}
+-- `plain_length` meets its contract: the sum so far is the length of the plain form of the tokens passed, of which none is longer than the file and ten bytes.
+use mathlib.Core.Path.{_≡_, refl, sym, _∙_, ap}
 use mathlib.Core.List.{flatMap}
 use Prim.Native.Nat.{_-_, _*_, _≤_}
 use native.Mathlib.Omega.{arith}
@@ -10,19 +9,21 @@ use Rattle.star_lex.specs.Holds.{fileTokens}
 use Rattle.star_lex.proofs.Held.{count-small}
 use Rattle.star_write.specs.Put.{tokenOf}
 use Rattle.star_write.proofs.Lengths.{short-plain}
-use Rattle.star_write.proofs.Prefix.{plainFirst, Next, next, plain-all}
+use Rattle.star_grammar.specs.Stopless.{dropStops}
+use Rattle.star_write.proofs.Keeping.{keptFirst, none, Next, next, kept-all, kept-short}
 use Rattle.star_write.proofs.plain.plain_length.Statement.{statement}
 use Rattle.star_write.proofs.plain.plain_length.Tie as tie
 
 abbrev Inv-loop : tie.InvT-loop
-Inv-loop file tokens count total₀ n₀ total n = (n ≤ count) × (total ≡ length (plainFirst n (fileTokens file))) × (total ≤ n * 1048586)
+Inv-loop file tokens count without total₀ n₀ total n =
+    (n ≤ count) × (total ≡ length (keptFirst without n (fileTokens file))) × (total ≤ n * 1048586)
 
 abbrev μ-loop : tie.MeasureT-loop
-μ-loop file tokens count total₀ n₀ total n = count - n
+μ-loop file tokens count without total₀ n₀ total n = count - n
 
 loop-holds : tie.Need-loop-holds Inv-loop μ-loop
-unfolding plainBy flatMap
-loop-holds c = (omega arith, refl, omega arith)
+unfolding plainBy flatMap dropStops
+loop-holds c = (omega arith, none (c .before .before .args .without), omega arith)
 
 mul-kind : tie.Need-mul-kind Inv-loop μ-loop
 mul-kind c = omega arith
@@ -33,26 +34,30 @@ mul-kind-2 c = omega arith
 shared-slice-read-kind : tie.Need-shared-slice-read-kind Inv-loop μ-loop
 shared-slice-read-kind c = omega arith
 
+is-dropped-requires : tie.Need-is-dropped-requires Inv-loop μ-loop
+is-dropped-requires c κs = omega arith
+
 content-requires : tie.Need-content-requires Inv-loop μ-loop
 content-requires c κs = tt
 
-token-length-requires : tie.Need-token-length-requires Inv-loop μ-loop
-token-length-requires c κs = tt
-
 -- the turn's token
 turn : (c : tie.After-content Inv-loop μ-loop)
-    → Next (c .before .before .before .before .before .before .args .file .now) (c .before .before .before .loop .n) (getD (c .before .before .before .before .before .before .args .tokens .now) (c .before .before .before .loop .n * 3) 0) (c .content .result .now)
-turn c = next _ _ _ (c .before .before .before .before .before .before .pre) (c .before .before .before .loop .n) (omega arith) _ (c .content .ensures .0)
+    → Next (c .before .before .before .before .before .before .before .args .without) (c .before .before .before .before .before .before .before .args .file .now) (c .before .before .before .before .loop .n) (getD (c .before .before .before .before .before .before .before .args .tokens .now) (c .before .before .before .before .loop .n * 3) 0) (c .content .result .now)
+turn c = next _ _ _ _ (c .before .before .before .before .before .before .before .pre) (c .before .before .before .before .loop .n) (omega arith) _ (c .content .ensures .0)
+
+kept-length-requires : tie.Need-kept-length-requires Inv-loop μ-loop
+kept-length-requires c κs = tt
 
 -- its length
-short : (c : tie.After-token-length Inv-loop μ-loop) → c .token-length .result ≤ 1048586
+short : (c : tie.After-kept-length Inv-loop μ-loop) → c .kept-length .result ≤ 1048586
 short c =
-    let start = c .before .before .before .before .before .before .before in
-    let kind = getD (start .args .tokens .now) (c .before .before .before .before .loop .n * 3) 0 in
-    omega (arith, c .token-length .ensures, short-plain (tokenOf kind (c .before .content .result .now)), turn (c .before) .small)
+    let l = c .before .before .before .before .before .loop in
+    let kind = getD (c .before .before .before .before .before .before .before .before .args .tokens .now) (l .n * 3) 0 in
+    let content = c .before .content .result .now in
+    omega (arith, c .kept-length .ensures, kept-short (c .before .before .is-dropped .result) kind content 1048586 (omega (arith, short-plain (tokenOf kind content), turn (c .before) .small)))
 
 add-total : tie.Need-add-total Inv-loop μ-loop
-add-total c = omega (arith, short c, count-small _ _ _ (c .before .before .before .before .before .before .before .pre))
+add-total c = omega (arith, short c, count-small _ _ _ (c .before .before .before .before .before .before .before .before .pre))
 
 add-n : tie.Need-add-n Inv-loop μ-loop
 add-n c = omega arith
@@ -61,10 +66,18 @@ loop-less : tie.Need-loop-less Inv-loop μ-loop
 loop-less c = omega arith
 
 loop-again : tie.Need-loop-again Inv-loop μ-loop
-loop-again c = (omega arith, omega (arith, turn (c .before) .sum, c .token-length .ensures), omega (arith, short c))
+loop-again c =
+    let start = c .before .before .before .before .before .before .before .before in
+    let l = c .before .before .before .before .before .loop in
+    let d = c .before .before .is-dropped .ensures _ _ (start .pre) (omega arith) in
+    let t = turn (c .before) in (
+      omega arith,
+      omega (arith, rw (← d) at (t .sum), c .kept-length .ensures),
+      omega (arith, short c),
+    )
 
 returns : tie.Need-returns Inv-loop μ-loop
-returns c = c .before .loop .inv .1 ∙ ap length (plain-all _ _ _ (c .before .before .before .before .pre) (c .before .loop .n) (omega arith))
+returns c = c .before .loop .inv .1 ∙ ap length (kept-all (c .before .before .before .before .args .without) _ _ _ (c .before .before .before .before .pre) (c .before .loop .n) (omega arith))
 
 pub plain-length-spec : {M : Type 1} → statement M
 plain-length-spec =
@@ -76,8 +89,9 @@ plain-length-spec =
     mul-kind
     mul-kind-2
     shared-slice-read-kind
+    is-dropped-requires
     content-requires
-    token-length-requires
+    kept-length-requires
     add-total
     add-n
     loop-less

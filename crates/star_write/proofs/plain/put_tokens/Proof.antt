@@ -1,29 +1,27 @@
 -- `put_tokens` meets its contract: the output begins with the plain form of the tokens passed, and each turn fills more of the room that is
 -- left.
-use mathlib.Core.Path.{_≡_, refl, _∙_}
-use mathlib.Core.List.{flatMap}
-use Prim.Native.Nat.{_-_, _*_, _≤_}
+use mathlib.Core.Path.{_≡_, refl, sym, _∙_}
+use Prim.Native.Nat.{_+_, _-_, _*_, _≤_}
 use native.Mathlib.Omega.{arith}
 use borrow.Rule.Slice.PartMut.{same-len-mid}
 use lib.ListN.{length, getD, length-take, length-drop}
-use Rattle.star_lex.specs.Plain.{plainBy}
 use Rattle.star_lex.specs.Holds.{fileTokens}
 use Rattle.star_write.specs.Put.{Filled}
-use Rattle.star_write.proofs.Putting.{fill-none, fill-rest}
-use Rattle.star_write.proofs.Prefix.{plainFirst, Next, next, plain-all}
+use Rattle.star_write.proofs.Putting.{fill-rest}
+use Rattle.star_write.specs.Kept.{keptPlain}
+use Rattle.star_write.proofs.Keeping.{keptFirst, none-filled, Next, next, kept-all}
 use Rattle.star_write.proofs.plain.put_tokens.Statement.{statement}
 use Rattle.star_write.proofs.plain.put_tokens.Tie as tie
 
 abbrev Inv-loop : tie.InvT-loop
-Inv-loop file tokens count out₀ at₀ n₀ out at n =
-    (n ≤ count) × Filled (plainFirst n (fileTokens file)) out₀ out at × (length out ≡ length out₀)
+Inv-loop file tokens count out₀ without at₀ n₀ out at n =
+    (n ≤ count) × Filled (keptFirst without n (fileTokens file)) out₀ out at × (length out ≡ length out₀)
 
 abbrev μ-loop : tie.MeasureT-loop
-μ-loop file tokens count out₀ at₀ n₀ out at n = count - n
+μ-loop file tokens count out₀ without at₀ n₀ out at n = count - n
 
 loop-holds : tie.Need-loop-holds Inv-loop μ-loop
-unfolding plainBy flatMap
-loop-holds c = (omega arith, fill-none _, refl)
+loop-holds c = (omega arith, none-filled (c .before .before .before .args .without) _, refl)
 
 mul-kind : tie.Need-mul-kind Inv-loop μ-loop
 mul-kind c = omega arith
@@ -37,32 +35,43 @@ shared-slice-read-kind c = omega arith
 content-requires : tie.Need-content-requires Inv-loop μ-loop
 content-requires c κs = tt
 
+is-dropped-requires : tie.Need-is-dropped-requires Inv-loop μ-loop
+is-dropped-requires c κs = omega arith
+
 -- the turn's token
 turn : (c : tie.After-content Inv-loop μ-loop)
-    → Next (c .before .before .before .before .before .before .before .args .file .now) (c .before .before .before .loop .n) (getD (c .before .before .before .before .before .before .before .args .tokens .now) (c .before .before .before .loop .n * 3) 0) (c .content .result .now)
-turn c = next _ _ _ (c .before .before .before .before .before .before .before .pre .0) (c .before .before .before .loop .n) (omega arith) _ (c .content .ensures .0)
+    → Next (c .before .before .before .before .before .before .before .args .without) (c .before .before .before .before .before .before .before .args .file .now) (c .before .before .before .loop .n) (getD (c .before .before .before .before .before .before .before .args .tokens .now) (c .before .before .before .loop .n * 3) 0) (c .content .result .now)
+turn c = next _ _ _ _ (c .before .before .before .before .before .before .before .pre .0) (c .before .before .before .loop .n) (omega arith) _ (c .content .ensures .0)
 
-sub-put-token : tie.Need-sub-put-token Inv-loop μ-loop
-sub-put-token c = omega (arith, turn c .within, turn c .sum, c .before .before .before .loop .inv .1 .counts, c .before .before .before .before .before .before .before .pre .1)
+-- how far it goes
+sum : (c : tie.After-is-dropped Inv-loop μ-loop)
+    → length (keptFirst (c .before .before .before .before .before .before .before .before .args .without) (c .before .before .before .before .loop .n + 1) (fileTokens (c .before .before .before .before .before .before .before .before .args .file .now)))
+    ≡ length (keptFirst (c .before .before .before .before .before .before .before .before .args .without) (c .before .before .before .before .loop .n) (fileTokens (c .before .before .before .before .before .before .before .before .args .file .now)))
+    + length (keptPlain (c .is-dropped .result) (getD (c .before .before .before .before .before .before .before .before .args .tokens .now) (c .before .before .before .before .loop .n * 3) 0) (c .before .content .result .now))
+sum c = rw (c .is-dropped .ensures _ _ (c .before .before .before .before .before .before .before .before .pre .0) (omega arith)) (turn (c .before) .sum)
 
-part-put-token-start : tie.Need-part-put-token-start Inv-loop μ-loop
-part-put-token-start c = sub-put-token c
+sub-put-kept : tie.Need-sub-put-kept Inv-loop μ-loop
+sub-put-kept c = omega (arith, turn (c .before) .within, sum c, c .before .before .before .before .loop .inv .1 .counts, c .before .before .before .before .before .before .before .before .pre .1)
 
-part-put-token-end : tie.Need-part-put-token-end Inv-loop μ-loop
-part-put-token-end c = omega arith
+part-put-kept-start : tie.Need-part-put-kept-start Inv-loop μ-loop
+part-put-kept-start c = sub-put-kept c
 
-put-token-requires : tie.Need-put-token-requires Inv-loop μ-loop
-put-token-requires c κs =
-    let t = turn (c .before) in
-    simp (length-take, length-drop) (omega (arith, t .within, t .sum, c .before .before .before .before .loop .inv .1 .counts, c .before .before .before .before .before .before .before .before .pre .1))
+part-put-kept-end : tie.Need-part-put-kept-end Inv-loop μ-loop
+part-put-kept-end c = omega arith
+
+put-kept-requires : tie.Need-put-kept-requires Inv-loop μ-loop
+put-kept-requires c κs =
+    let asked = c .before in
+    simp (length-take, length-drop) (omega (arith, turn (asked .before) .within, sum asked, asked .before .before .before .before .loop .inv .1 .counts, asked .before .before .before .before .before .before .before .before .pre .1))
+
+-- where the room that was lent is whole again
+abbrev asked : tie.After-slice-known2 Inv-loop μ-loop → tie.After-is-dropped Inv-loop μ-loop
+asked c = c .before .before .before .before
 
 add-at : tie.Need-add-at Inv-loop μ-loop
 add-at c =
-    let at-4 = c .before .before .before .before in
-    let at-loop = at-4 .before .before .before in
-    let start = at-loop .before .before .before .before in
-    let t = turn (at-4) in
-    omega (arith, t .within, t .sum, at-loop .loop .inv .1 .counts, c .before .before .put-token .ensures .counts, start .pre .1)
+    let d = asked c in
+    omega (arith, turn (d .before) .within, sum d, d .before .before .before .before .loop .inv .1 .counts, c .before .before .put-kept .ensures .counts, d .before .before .before .before .before .before .before .before .pre .1)
 
 add-n : tie.Need-add-n Inv-loop μ-loop
 add-n c = omega arith
@@ -72,10 +81,13 @@ loop-less c = omega arith
 
 loop-again : tie.Need-loop-again Inv-loop μ-loop
 loop-again c =
-    let turned = c .before .before .before .before .before .before .before .loop in (
+    let put = c .before .before in
+    let d = asked c in
+    let turned = d .before .before .before .before .loop in
+    let e = d .is-dropped .ensures _ _ (d .before .before .before .before .before .before .before .before .pre .0) (omega arith) in (
       omega arith,
-      rw (turn (c .before .before .before .before) .plain) (fill-rest (turned .inv .1) (c .before .before .put-token .ensures)),
-      same-len-mid (turned .at) (length (turned .out) - turned .at) (turned .out) (c .before .before .put-token .last .0) (c .before .before .put-token .kept .0) ∙ turned .inv .2,
+      rw (turn (d .before) .plain, ← e) (fill-rest (turned .inv .1) (put .put-kept .ensures)),
+      same-len-mid (turned .at) (length (turned .out) - turned .at) (turned .out) (put .put-kept .last .0) (put .put-kept .kept .0) ∙ turned .inv .2,
     )
 
 same-length : tie.Need-same-length Inv-loop μ-loop
@@ -83,7 +95,8 @@ same-length c = c .before .loop .inv .2
 
 returns : tie.Need-returns Inv-loop μ-loop
 returns c =
-    let whole = plain-all _ _ _ (c .before .before .before .before .before .pre .0) (c .before .loop .n) (omega arith) in
+    let start = c .before .before .before .before .before in
+    let whole = kept-all (start .args .without) _ _ _ (start .pre .0) (c .before .loop .n) (omega arith) in
     rw whole at (c .before .loop .inv .1 .leaves)
 
 pub put-tokens-spec : {M : Type 1} → statement M
@@ -97,10 +110,11 @@ put-tokens-spec =
     mul-kind-2
     shared-slice-read-kind
     content-requires
-    sub-put-token
-    part-put-token-start
-    part-put-token-end
-    put-token-requires
+    is-dropped-requires
+    sub-put-kept
+    part-put-kept-start
+    part-put-kept-end
+    put-kept-requires
     add-at
     add-n
     loop-less

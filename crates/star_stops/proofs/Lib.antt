@@ -1,9 +1,0 @@
-pub mod Dropping
-pub mod Trees
-pub mod Alike
-pub mod AlikeTrees
-pub mod Contents
-pub mod Keeping
-pub mod Outcome
-pub mod StopsDropped
-pub mod Demand1

@@ -1,4 +1,0 @@
-pub mod Stopless
-pub mod Drop
-pub mod Inner
-pub mod Demands
