@@ -6,32 +6,12 @@
 mod harness;
 
 use harness::indexes::{build, check as check_slots, check_finds};
-use harness::{check, handed, room, seeds, setting, Tally};
+use harness::{check, handed, require, require_refusals, room, seeds, Tally};
 use tackturnel::{index, raw, star, Counts, Found, Reading, Tables, TablesMut};
 use tackturnel_tests_support::generate::{self, globals, indexes, Handed, Question, Rng};
 use tackturnel_tests_support::index::{faults, filled, home, Faults};
 use tackturnel_tests_support::notation::escaped;
 use tackturnel_tests_support::{reference, MOST_BYTES, WIDTHS};
-
-/// Requires that each of these was met so often, unless in a small part of a run.
-fn require(group: &str, counts: &[(&str, u64)], least: u64) {
-    println!("{group}: {counts:?}");
-    if setting("STAR_COMPARE_TIMES", 1.0) >= 0.1 {
-        for (sort, count) in counts {
-            assert!(*count >= least, "{group}: {sort} {count} times");
-        }
-    }
-}
-
-/// Requires that each of these refusals was met, unless in a small part of a run.
-fn require_refusals(group: &str, tally: &Tally, refusals: &[usize]) {
-    println!("{group}: answers by refusal {tally:?}");
-    if setting("STAR_COMPARE_TIMES", 1.0) >= 0.1 {
-        for &refusal in refusals {
-            assert!(tally[refusal] > 0, "{group}: refusal {refusal} was never met");
-        }
-    }
-}
 
 /// A name, asked of a set.
 fn question(set: u32, name: &[u8]) -> Question {

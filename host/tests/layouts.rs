@@ -8,33 +8,13 @@ mod harness;
 use harness::layouts::{
     convert_into, converted, handed, over_and_back, plain_length, read_into, room, LAYOUTS,
 };
-use harness::{check, check_lookups, seeds, setting, Tally};
+use harness::{check, check_lookups, require, require_refusals, seeds, Tally};
 use tackturnel::raw::{STAR_LAYOUT_1991 as OF_1991, STAR_LAYOUT_TODAY as TODAY};
 use tackturnel::{index, raw, star, Reading, Tables, TablesMut, Written};
 use tackturnel_tests_support::generate::twins::{self, Plan, SORTS};
 use tackturnel_tests_support::generate::{self, layouts, Handed, Question, Rng};
 use tackturnel_tests_support::notation::escaped;
 use tackturnel_tests_support::{reference, MOST_BYTES, WIDTHS};
-
-/// Requires that each of these was met so often, unless in a small part of a run.
-fn require(group: &str, counts: &[(&str, u64)], least: u64) {
-    println!("{group}: {counts:?}");
-    if setting("STAR_COMPARE_TIMES", 1.0) >= 0.1 {
-        for (sort, count) in counts {
-            assert!(*count >= least, "{group}: {sort} {count} times");
-        }
-    }
-}
-
-/// Requires that each of these refusals was met, unless in a small part of a run.
-fn require_refusals(group: &str, tally: &Tally, refusals: &[usize]) {
-    println!("{group}: answers by refusal {tally:?}");
-    if setting("STAR_COMPARE_TIMES", 1.0) >= 0.1 {
-        for &refusal in refusals {
-            assert!(tally[refusal] > 0, "{group}: refusal {refusal} was never met");
-        }
-    }
-}
 
 /// Reads a file of a layout by both, with tables of this many words more, or less, than
 /// needed; fails where they differ.

@@ -7,35 +7,12 @@ mod harness;
 
 use harness::layouts::{convert_into, plain_length, read_into, LAYOUTS};
 use harness::stops::{drop_into, dropped, dropped_length, drops_and_reads, room};
-use harness::{check, check_lookups, indexes, seeds, setting, Tally};
+use harness::{check, check_lookups, indexes, require, require_refusals, seeds, Tally};
 use tackturnel::raw::{STAR_LAYOUT_1991 as OF_1991, STAR_LAYOUT_TODAY as TODAY};
 use tackturnel::{index, raw, star, Checked, Reading, Tables, TablesMut, Written};
 use tackturnel_tests_support::generate::{self, layouts, stops, Handed, Rng};
 use tackturnel_tests_support::notation::escaped;
 use tackturnel_tests_support::{reference, WIDTHS};
-
-/// Requires that each of these was met so often, in a part of a run as many times less, and
-/// not at all in a small one.
-fn require(group: &str, counts: &[(&str, u64)], least: u64) {
-    println!("{group}: {counts:?}");
-    let times = setting("STAR_COMPARE_TIMES", 1.0);
-    if times >= 0.1 {
-        let least = (least as f64 * times.min(1.0)).ceil() as u64;
-        for (sort, count) in counts {
-            assert!(*count >= least, "{group}: {sort} {count} times");
-        }
-    }
-}
-
-/// Requires that each of these refusals was met, unless in a small part of a run.
-fn require_refusals(group: &str, tally: &Tally, refusals: &[usize]) {
-    println!("{group}: answers by refusal {tally:?}");
-    if setting("STAR_COMPARE_TIMES", 1.0) >= 0.1 {
-        for &refusal in refusals {
-            assert!(tally[refusal] > 0, "{group}: refusal {refusal} was never met");
-        }
-    }
-}
 
 /// Reads a file of a layout by both, with tables of this many words more, or less, than
 /// needed; fails where they differ.

@@ -842,6 +842,15 @@ fn nearly(rng: &mut Rng, mut bytes: Vec<u8>) -> Vec<u8> {
     bytes
 }
 
+/// A file of so many bytes: a head, a piece as often as there is room, blanks and a tail.
+fn filled(head: &[u8], piece: &[u8], tail: &[u8], bytes: usize) -> Vec<u8> {
+    let count = (bytes - head.len() - tail.len()) / piece.len();
+    let mut file = [head, &piece.repeat(count)].concat();
+    file.resize(bytes - tail.len(), b' ');
+    file.extend_from_slice(tail);
+    file
+}
+
 #[cfg(test)]
 mod tests {
     use super::*;

@@ -405,6 +405,29 @@ pub fn fits_into(seed: u64, file: &[u8], room: [usize; 5]) -> Result<Checked, St
 /// How often each refusal was answered.
 pub type Tally = [u64; 17];
 
+/// Requires that each of these was met so often, in a part of a run as many times less, and
+/// not at all in a small one.
+pub fn require(group: &str, counts: &[(&str, u64)], least: u64) {
+    println!("{group}: {counts:?}");
+    let times = setting("STAR_COMPARE_TIMES", 1.0);
+    if times >= 0.1 {
+        let least = (least as f64 * times.min(1.0)).ceil() as u64;
+        for (sort, count) in counts {
+            assert!(*count >= least, "{group}: {sort} {count} times");
+        }
+    }
+}
+
+/// Requires that each of these refusals was met, unless in a small part of a run.
+pub fn require_refusals(group: &str, tally: &Tally, refusals: &[usize]) {
+    println!("{group}: answers by refusal {tally:?}");
+    if setting("STAR_COMPARE_TIMES", 1.0) >= 0.1 {
+        for &refusal in refusals {
+            assert!(tally[refusal] > 0, "{group}: refusal {refusal} was never met");
+        }
+    }
+}
+
 /// A file and its tables as the reference reads them, with words to spare.
 pub fn handed(file: &[u8], spare: usize) -> Handed {
     let room = reference::words_needed(file).map(|words| words + spare);

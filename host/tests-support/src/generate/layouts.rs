@@ -1,6 +1,6 @@
 //! Files of many save frames as each layout has them: closed by `save_`, and by `stop_`.
 
-use super::{laid_out, stops, value, Piece, Rng};
+use super::{filled, laid_out, stops, value, Piece, Rng};
 use crate::reference;
 
 /// A file that is accepted in today's layout, and the same bytes as the layout of 1991
@@ -180,13 +180,6 @@ pub fn largest() -> Vec<(&'static str, Vec<u8>)> {
     const FRAME: &[u8] = b"global_ save_f stop_ ";
     const LOOP: &[u8] = b"global_ save_f loop_ _x loop_ _y 1 2 stop_ 3 stop_ stop_\n";
     let most = crate::MOST_BYTES;
-    let filled = |head: &[u8], piece: &[u8], tail: &[u8], bytes: usize| {
-        let count = (bytes - head.len() - tail.len()) / piece.len();
-        let mut file = [head, &piece.repeat(count)].concat();
-        file.resize(bytes - tail.len(), b' ');
-        file.extend_from_slice(tail);
-        file
-    };
     vec![
         ("empty frames", filled(b"", FRAME, b"", most)),
         ("empty frames, one more", filled(b"", FRAME, b"", most + 1)),

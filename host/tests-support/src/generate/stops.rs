@@ -1,6 +1,6 @@
 //! Old files: with header stops, which the rules for old files accept and today's refuse.
 
-use super::{laid_out, layouts, value, Piece, Rng};
+use super::{filled, laid_out, layouts, value, Piece, Rng};
 use crate::reference;
 
 /// How many header stops to give a loop of so many levels: none, one, as many as may be,
@@ -160,13 +160,6 @@ pub fn largest() -> Vec<(&'static str, Vec<u8>)> {
         loop_ _h stop_ stop_ stop_ stop_ stop_ stop_ stop_ 1 stop_\n";
     const ONE: &[u8] = b"data_a loop_ _x loop_ _y stop_ 1 ";
     let most = crate::MOST_BYTES;
-    let filled = |head: &[u8], piece: &[u8], tail: &[u8], bytes: usize| {
-        let count = (bytes - head.len() - tail.len()) / piece.len();
-        let mut file = [head, &piece.repeat(count)].concat();
-        file.resize(bytes - tail.len(), b' ');
-        file.extend_from_slice(tail);
-        file
-    };
     vec![
         ("blocks of one header stop", filled(b"", BLOCK, b"", most)),
         ("blocks of one header stop, one more", filled(b"", BLOCK, b"", most + 1)),
