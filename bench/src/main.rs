@@ -17,8 +17,8 @@
 //! `tackturnel-bench --list` prints the cases, `--list numbers` those of numbers,
 //! `--list lookups` those of lookups, `--list indexes` those of indexes, `--list
 //! columns` those of columns, `--list layouts` those of layouts.
-//! `tackturnel-bench --once case read|write|fits_32` makes everything ready and
-//! makes one call, for counting its instructions; it prints the file's bytes.
+//! `tackturnel-bench --once case read|write|fits_32|drop_header_stops` makes everything
+//! ready and makes one call, for counting its instructions; it prints the file's bytes.
 //! `tackturnel-bench --once numbers-case number_of` makes one call for each text
 //! and prints how many there are.
 //! `tackturnel-bench --once lookup-case find_name` looks up each name of a case of
@@ -97,6 +97,13 @@ impl Ready {
         black_box(&self.tables);
     }
 
+    fn drop_header_stops(&mut self) {
+        let tables = TablesMut::of(&mut self.tables);
+        let written = star::drop_header_stops(black_box(&self.file), tables, &mut self.out);
+        assert_eq!(written.refusal, 0, "refused at {}", written.place);
+        black_box(&self.out);
+    }
+
     fn copy(&mut self, to: &mut [u8]) {
         to.copy_from_slice(black_box(&self.file));
         black_box(to);
@@ -142,6 +149,7 @@ fn once(case: Case, call: &str) {
         "read" => ready.read(),
         "write" => ready.write(),
         "fits_32" => ready.fits_32(),
+        "drop_header_stops" => ready.drop_header_stops(),
         _ => fail(&format!("no such call: {call}")),
     }
     println!("{}", ready.file.len());
