@@ -28,9 +28,9 @@ use Rattle.star_read.proofs.InLayout.{layout-usable, in-accepted}
 use Rattle.star_read.proofs.Demand3.{rows-of-reading}
 use Rattle.star_read.proofs.Accepted.{tokens-are}
 use Rattle.star_convert.specs.Convert.{otherRow}
-use Rattle.star_write.specs.Put.{tokenOf, Put, Filled}
+use Rattle.star_plain.specs.Put.{tokenOf, Put, Filled}
 use Rattle.star_convert.specs.Inner.{otherClose, HoldsToday}
-use Rattle.star_write.proofs.Prefix.{plainFirst}
+use Rattle.star_plain.proofs.Prefix.{plainFirst}
 use Rattle.star_convert.proofs.OtherLayout.{today-back}
 use Rattle.star_convert.proofs.Exchanging.{laid, row-laid, laid-at, laid-bare, laid-formed, rows-length, within, word-within, turn, turned}
 use Rattle.star_convert.proofs.TodayTable.{none, today-count, today-kind, today-content}

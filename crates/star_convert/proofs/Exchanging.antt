@@ -19,9 +19,9 @@ use Rattle.star_grammar.specs.Tree.{frameEnd, stop}
 use Rattle.star_grammar.specs.Layout.{oldToken, oldRow, layoutRow}
 use Rattle.star_grammar.proofs.Rest.{Fixed}
 use Rattle.star_grammar.proofs.Layouts.{old-end, old-stays}
-use Rattle.star_write.specs.Put.{tokenOf, Put, Filled}
-use Rattle.star_write.proofs.Putting.{fill-put, fill-kept}
-use Rattle.star_write.proofs.Prefix.{plainFirst, plain-append, plain-next, plain-within}
+use Rattle.star_plain.specs.Put.{tokenOf, Put, Filled}
+use Rattle.star_plain.proofs.Putting.{fill-put, fill-kept}
+use Rattle.star_plain.proofs.Prefix.{plainFirst, plain-append, plain-next, plain-within}
 
 -- a token of today's layout in one whose frames `stop_` closes, or not
 abbrev pub laid : (old : Bool) → Token → Token

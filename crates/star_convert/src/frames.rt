@@ -8,7 +8,7 @@ ghost use Rattle.star_lex.specs.Plain.{plainOf};
 ghost use Rattle.star_lex.specs.Holds.{Holds, fileTokens};
 ghost use Rattle.star_grammar.specs.Tree.{frameClose};
 ghost use Rattle.star_grammar.specs.Reading.{ReadingBy};
-ghost use Rattle.star_write.specs.Put.{Put};
+ghost use Rattle.star_plain.specs.Put.{Put};
 ghost use Rattle.star_convert.specs.Convert.{otherRow};
 ghost use Rattle.star_convert.specs.Inner.{otherClose, HoldsToday};
 
@@ -34,7 +34,7 @@ fn put_close(out: &mut [u8], at: usize, layout: u32, kind: u32) -> usize
     ensures { λ r. ⌜ Put (otherClose layout kind) at (now (out .entry)) (now (out .exit)) r ⌝ }
 {
     if kind == FRAME_END {
-        star_write::room::put_within(out, at, &close_word(layout))
+        star_plain::room::put_within(out, at, &close_word(layout))
     } else {
         at
     }
@@ -54,7 +54,7 @@ fn put_closes(file: &[u8], layout: u32, tokens: &[u32], count: usize, out: &mut 
         let kind = tokens[n * WIDTH];
         let content = star_lex::content(file, tokens, n);
         put_close(out, at, layout, kind);
-        at += star_write::token::token_length(kind, content);
+        at += star_plain::token::token_length(kind, content);
         n += 1;
     }
 }

@@ -1,9 +1,9 @@
 -- What an answer tells of the outcome. Reading's answer decides that of writing, with the length of the plain form; and from that answer follow the tables and the output. What is written of a reading is
 -- said for any row that is made of its tokens: writing has the row itself, converting that of the other layout, and dropping header stops that without them.
 use mathlib.Core.Path.{_≡_, refl, sym, _∙_, ap, subst}
-use mathlib.Core.Bool.{Bool, false}
-use mathlib.Core.List.{List, _++_}
-use Prim.Native.Nat.{ℕ, _-_, _≤_, _<_}
+use mathlib.Core.Bool.{Bool, true, false, cond, _&&_}
+use mathlib.Core.List.{List, [], _++_, flatMap}
+use Prim.Native.Nat.{ℕ, _-_, _*_, _≤_, _<_}
 use native.Mathlib.Nat.{sub-zero}
 use native.Mathlib.Omega.{arith}
 use borrow.Author.Tests.{leb-true, le-leb, lt-leb}
@@ -12,18 +12,22 @@ use lib.ListN.{length, replicate}
 use Rattle.star_text.specs.Outcome.{refused, accepted, then, need}
 use Rattle.star_text.proofs.Outcome.{accepted-same, need-accepted, need-refused, then-accepted, then-refused, NotZero}
 use Rattle.star_text.specs.Bytes.{mostBytes}
+use Rattle.star_text.proofs.Cases.{cond-by}
+use Rattle.star_rows.specs.Widths.{tokenWidth}
 use Rattle.star_lex.specs.Rules.{layoutRules}
 use Rattle.star_lex.specs.Tokens.{Token, Placed}
-use Rattle.star_lex.specs.Plain.{plainOf}
+use Rattle.star_lex.specs.Plain.{plainBy, plainOf}
 use Rattle.star_lex.proofs.Cases.{impossible}
 use Rattle.star_grammar.specs.Tables.{Rows}
 use Rattle.star_grammar.specs.Stopless.{dropStops}
-use Rattle.star_lex.specs.Holds.{fileTokens}
+use Rattle.star_lex.specs.Holds.{Holds, fileTokens}
 use Rattle.star_read.specs.Read.{FileRows, ReadOutcome, Sizes, tokensOnly, readIn, readOld, Way, readVia, readOf}
 use Rattle.star_read.specs.Answer.{readAnswer, readingOf, Tables, sizes, Leaves}
 use Rattle.star_read.specs.declared.Answer.{Answer}
 use Rattle.star_read.proofs.Accepted.{number-in, answer-rows, answer-refused, tokens-are, number-via, tokens-via}
-use Rattle.star_write.specs.Write.{Writing, written, plainFits, writeOf, writeIn, dropOf, keptRow, writingOf}
+use Rattle.star_plain.specs.Kept.{keptRow, firstTokens, rowsTaken, plainIn, roomWith}
+use Rattle.star_plain.proofs.Held.{held-plain}
+use Rattle.star_write.specs.Write.{Writing, written, plainFits, writeOf, writeIn, dropOf, writingOf}
 use Rattle.star_write.specs.Answer.{bytesOf, outputOf, writeAnswer, Leaving, Writes, WritesIn}
 use Rattle.star_write.specs.declared.Written.{Written}
 
@@ -112,6 +116,29 @@ module _ (o : ReadOutcome) (row : List Token → List Token) (plain : List ℕ) 
         let w : writingBy o row room ≡ written (accepts .0) (accepts .1) plain = rw (after-reading, le-leb _ _ h, le-leb _ _ k) in
         ap (counted (length plain)) (e ∙ ap readAnswer (accepts .2)) ∙ sym (ap writeAnswer w)
 
+-- a room with a plain form is the output where that is written, and else all 0
+fits-room : (room : ℕ) (read : FileRows) (plain : List ℕ) → outputOf (plainFits room read plain) room ≡ roomWith room plain
+unfolding plainFits need outputOf bytesOf roomWith
+fits-room room read plain = by (leb (length plain) mostBytes) (leb (length plain) room)
+  where
+    by : (b c : Bool) → outputOf (need b 1 0 (need c 7 6 (accepted (read, plain)))) room ≡ cond (b && c) (plain ++ replicate (room - length plain) 0) (replicate room 0)
+    by true true = refl
+    by true false = ap (λ n. replicate n 0) (sub-zero room)
+    by false c = ap (λ n. replicate n 0) (sub-zero room)
+
+-- of no rows nothing is written
+none-rows : (without : Bool) (file words : List ℕ) → plainIn without file words 0 ≡ []
+unfolding rowsTaken firstTokens dropStops plainBy flatMap
+none-rows without file words = cond-by (λ (n : ℕ). plainOf (keptRow without (firstTokens file words n)) ≡ []) (leb (length file) mostBytes && (leb 0 mostBytes && leb (0 * tokenWidth) (length words))) 0 0 (λ e. by without) (λ e. by without)
+  where
+    by : (b : Bool) → plainOf (keptRow b (firstTokens file words 0)) ≡ []
+    by true = refl
+    by false = refl
+
+none-room : (room n place : ℕ) → roomWith room [] ≡ outputOf (refused n place) room
+unfolding roomWith outputOf bytesOf
+none-room room n place = rw (le-leb 0 room (omega arith))
+
 -- the plain form of what is kept of the tokens that are read is that of the file's tokens
 pub kept-via : (way : Way) (file : List ℕ) (words : Sizes) (without : Bool) (ps : List Placed) (rows : Rows) → readVia way file words ≡ accepted (ps, rows)
     → plainOf (keptRow without (tokensOnly ps)) ≡ plainOf (keptRow without (fileTokens file))
@@ -132,13 +159,30 @@ module _ (way : Way) (file : List ℕ) (words : Sizes) (without : Bool) (r : Ans
     pub via-short : length form ≤ mostBytes → room < length form → writingOf (readVia way file words) without room ≡ refused 7 6
     via-short = too-short (readVia way file words) (keptRow without) form (kept-via way file words without) r e room (number-via file words way) z
 
+    -- the output holds the form where it fits
+    via-room : (plain : List ℕ) → plain ≡ form → roomWith room plain ≡ outputOf (writingOf (readVia way file words) without room) room
+    via-room plain p =
+        ap (roomWith room) p ∙ sym (fits-room room _ form)
+        ∙ sym (ap (λ w. outputOf w room) (after-reading (readVia way file words) (keptRow without) form (kept-via way file words without) r e room (number-via file words way) z))
+
     pub via-fits : length form ≤ mostBytes → length form ≤ room → counted (length form) r ≡ writeAnswer (writingOf (readVia way file words) without room)
     via-fits = fits-output (readVia way file words) (keptRow without) form (kept-via way file words without) r e room (number-via file words way) z
 
--- no answer of a refusal has the number 0
-pub refused-not : (n place : ℕ) (r : Written) → r ≡ writeAnswer (refused n place) → (n ≡ 0 → ⊥) → r .refusal ≡ 0 → ⊥
-unfolding writeAnswer readingOf bytesOf readAnswer
-refused-not n place r e f z = f (sym (ap (λ w. w .refusal) e) ∙ z)
+-- the output, by the room with the plain form of the rows that reading counts
+pub via-output : (way : Way) (file : List ℕ) (words : Sizes) (without : Bool) (r : Answer) → r ≡ readAnswer (readVia way file words) → (room : ℕ) (table : List ℕ)
+    → (r .refusal ≡ 0 → Holds file table (r .tokens))
+    → roomWith room (plainIn without file table (r .tokens)) ≡ outputOf (writingOf (readVia way file words) without room) room
+unfolding then readAnswer
+via-output way file words without r e room table h = go (readVia way file words) refl
+  where
+    go : (o : ReadOutcome) → readVia way file words ≡ o → roomWith room (plainIn without file table (r .tokens)) ≡ outputOf (writingOf (readVia way file words) without room) room
+    go (refused n place) d =
+        let none : r .tokens ≡ 0 = ap (λ a. a .tokens) (e ∙ ap readAnswer d) in
+        ap (λ k. roomWith room (plainIn without file table k)) none ∙ ap (roomWith room) (none-rows without file table) ∙ none-room room n place
+        ∙ sym (ap (λ o. outputOf (writingOf o without room) room) d)
+    go (accepted (ps, rows)) d =
+        let z : r .refusal ≡ 0 = ap (λ a. a .refusal) (e ∙ ap readAnswer d) in
+        via-room way file words without r e room z _ (held-plain file table (r .tokens) (h z) without)
 
 -- an answer of another number: the outcome is that refusal
 pub writing-refused : (o : Writing) (a : Written) → a ≡ writeAnswer o → (a .refusal ≡ 0 → ⊥) → o ≡ refused (a .refusal) (a .place)
@@ -211,36 +255,17 @@ success layout file words room a e z =
     = success-by (readIn layout file words) (λ ts. ts) (plainOf (fileTokens file)) (plain-in layout file words) (number-in layout file words) room a e z in
     record { ps = s .ps; rows = s .rows; outcome = s .outcome; reads = s .reads; count = s .count; size = s .size; fits = s .fits }
 
--- a list of so many zeros
-pub zeros : {xs : List ℕ} {m n : ℕ} → m ≡ n → xs ≡ replicate m 0 → xs ≡ replicate n 0
-zeros e z = z ∙ ap (λ n. replicate n 0) e
-
--- the tables and the output, refused and written
+-- the tables, refused and written
 pub refused-tables : {o : Writing} {n place : ℕ} {words : Sizes} {t : Tables} → o ≡ refused n place → Leaves (refused n place) words t
     → Leaves (readingOf o) words t
 unfolding readingOf
 refused-tables {words = words} {t = t} e l = subst (λ o. Leaves (readingOf o) words t) (sym e) l
-
-pub refused-output : (room : ℕ) {o : Writing} {n place : ℕ} {out : List ℕ} → o ≡ refused n place → out ≡ replicate room 0 → out ≡ outputOf o room
-unfolding outputOf bytesOf
-refused-output room e z = zeros (sym (sub-zero room)) z ∙ sym (ap (λ o. outputOf o room) e)
 
 -- of any outcome that is written
 module _ {o : ReadOutcome} {w : Writing} {plain : List ℕ} {ps : List Placed} {rows : Rows} (reads : o ≡ accepted (ps, rows)) (outcome : w ≡ written ps rows plain) where
   pub tables-by : {words : Sizes} {t : Tables} → Leaves o words t → Leaves (readingOf w) words t
   unfolding readingOf
   tables-by {words} {t} k = subst (λ u. Leaves u words t) (reads ∙ sym (ap readingOf outcome)) k
-
-  pub output-by : (room : ℕ) {size : ℕ} {out : List ℕ} → size ≡ length plain → out ≡ plain ++ replicate (room - size) 0 → out ≡ outputOf w room
-  unfolding outputOf bytesOf
-  output-by room e z = z ∙ ap (λ n. plain ++ replicate (room - n) 0) e ∙ sym (ap (λ w. outputOf w room) outcome)
-
-module _ {layout : ℕ} {file : List ℕ} {words : Sizes} {room : ℕ} {a : Written} (d : Success layout file words room a) where
-  pub written-tables : {t : Tables} → Leaves (readIn layout file words) words t → Leaves (readingOf (writeIn layout file words room)) words t
-  written-tables = tables-by (d .reads) (d .outcome)
-
-  pub written-output : {out : List ℕ} → out ≡ plainOf (fileTokens file) ++ replicate (room - a .length) 0 → out ≡ outputOf (writeIn layout file words room) room
-  written-output = output-by (d .reads) (d .outcome) room (d .size)
 
 -- tables of the same lengths have the same sizes, and what is left in either is the same
 pub same-sizes : (before mid : Tables) → length (mid .tokens) ≡ length (before .tokens) → length (mid .sets) ≡ length (before .sets) → length (mid .names) ≡ length (before .names)

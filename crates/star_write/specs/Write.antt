@@ -1,15 +1,16 @@
 -- What writing gives: specification 12.4, and dropping header stops: 21.4. Believed; the contracts of `write`, `write_layout` and `drop_header_stops`, converting and the demands cite it.
-use mathlib.Core.Bool.{Bool, false, cond}
+use mathlib.Core.Bool.{Bool, false}
 use mathlib.Core.List.{List}
 use Prim.Native.Nat.{ℕ}
 use lib.Dec.{leb}
 use lib.ListN.{length}
 use Rattle.star_text.specs.Outcome.{Outcome, accepted, then, need}
 use Rattle.star_text.specs.Bytes.{mostBytes}
-use Rattle.star_lex.specs.Tokens.{Token, Placed}
+use Rattle.star_lex.specs.Tokens.{Placed}
 use Rattle.star_lex.specs.Plain.{plainOf}
 use Rattle.star_grammar.specs.Tables.{Rows}
 use Rattle.star_grammar.specs.Stopless.{dropStops}
+use Rattle.star_plain.specs.Kept.{keptRow}
 use Rattle.star_read.specs.Read.{FileRows, ReadOutcome, Sizes, tokensOnly, readIn, readOld, readOf}
 
 -- what is written: the tokens and rows of the reading, and the plain form
@@ -34,10 +35,6 @@ writeIn layout file words room = then (readIn layout file words) (λ read. plain
 -- an old file's plain form without the header stops
 unfoldable pub dropOf : List ℕ → Sizes → (room : ℕ) → Writing
 dropOf file words room = then (readOld file words) (λ read. plainFits room read (plainOf (dropStops false (tokensOnly (read .0)))))
-
--- a row of tokens with its header stops or without
-abbrev pub keptRow : (without : Bool) → List Token → List Token
-keptRow without ts = cond without (dropStops false ts) ts
 
 -- what is written after reading, with the header stops or without
 abbrev pub writingOf : ReadOutcome → (without : Bool) → (room : ℕ) → Writing

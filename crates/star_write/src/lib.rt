@@ -1,20 +1,17 @@
 // Writing the plain form of a STAR File, of either layout, or of an old file without its header stops, into lent bytes.
-mod plain;
-pub mod room;
-pub mod token;
-
 use star_read::Answer;
 ghost use mathlib.Core.Path.{_≡_};
-ghost use mathlib.Core.List.{_++_};
-ghost use Prim.Native.Nat.{ℕ, _-_, _≤_};
-ghost use lib.ListN.{length, replicate};
+ghost use mathlib.Core.Bool.{Bool};
+ghost use mathlib.Core.List.{List};
+ghost use Prim.Native.Nat.{ℕ};
+ghost use lib.ListN.{length};
 ghost use Rattle.star_lex.specs.Plain.{plainOf};
 ghost use Rattle.star_lex.specs.Holds.{Holds, fileTokens};
 ghost use Rattle.star_read.specs.Read.{Sizes, Way, readVia};
 ghost use Rattle.star_text.specs.Outcome.{refused};
 ghost use Rattle.star_read.specs.Answer.{readAnswer, tables, sizes, Leaves};
-ghost use Rattle.star_write.specs.Write.{keptRow, writingOf};
-ghost use Rattle.star_write.specs.Kept.{Sized};
+ghost use Rattle.star_plain.specs.Kept.{keptRow};
+ghost use Rattle.star_write.specs.Write.{writingOf};
 ghost use Rattle.star_write.specs.Answer.{writeAnswer, Leaving, Writes, WritesIn, DropsStops};
 
 // What writing answers: refusal and place, both 0 when written, the length of the plain form, and the number of rows of each table.
@@ -46,17 +43,15 @@ fn refusing(refusal: u32, place: u32) -> Written
     }
 }
 
-// What writing answers after reading has answered: refusal 1 if the plain form is too long, then 7 if the output is too short.
-fn answer(file: &[u8], tokens: &[u32], reading: Answer, room: usize, without: bool) -> Written
-    requires { ⌜ (reading .refusal ≡ 0 → Holds (now file) (now tokens) (reading .tokens)) ⌝ }
-    ensures { λ r. ⌜ ((way : Way) (words : Sizes) → reading ≡ readAnswer (readVia way (now (file .entry)) words)
-        → r ≡ writeAnswer (writingOf (readVia way (now (file .entry)) words) without room)) ⌝ }
-    ensures { λ r. ⌜ (r .refusal ≡ 0 → Sized (now (file .entry)) without reading room r) ⌝ }
+// What writing answers after reading has answered, where the plain form has that size: refusal 1 if it is too long, then 7 if the output is too short.
+fn answer(reading: Answer, size: usize, room: usize) -> Written
+    ensures { λ r. ⌜ ((way : Way) (file : List ℕ) (words : Sizes) (without : Bool) → reading ≡ readAnswer (readVia way file words)
+        → (reading .refusal ≡ 0 → size ≡ length (plainOf (keptRow without (fileTokens file))))
+        → r ≡ writeAnswer (writingOf (readVia way file words) without room)) ⌝ }
 {
     if reading.refusal != 0 {
         return refusing(reading.refusal, reading.place);
     }
-    let size = plain::plain_length(file, tokens, reading.tokens as usize, without);
     if size > star_text::MOST_BYTES {
         return refusing(1, 0);
     }
@@ -73,35 +68,6 @@ fn answer(file: &[u8], tokens: &[u32], reading: Answer, room: usize, without: bo
         packets: reading.packets,
         values: reading.values,
     }
-}
-
-// Sets every word of the five tables and every byte of the output to 0, as every refusal leaves them.
-fn clear_all(
-    tokens: &mut [u32],
-    sets: &mut [u32],
-    names: &mut [u32],
-    packets: &mut [u32],
-    values: &mut [u32],
-    out: &mut [u8],
-)
-    ensures { λ _. ⌜ ((n place : ℕ) → Leaves (refused n place)
-        (sizes (tables (now (tokens .entry)) (now (sets .entry)) (now (names .entry)) (now (packets .entry)) (now (values .entry))))
-        (tables (now (tokens .exit)) (now (sets .exit)) (now (names .exit)) (now (packets .exit)) (now (values .exit)))) ⌝ }
-    ensures { λ _. ⌜ now (out .exit) ≡ replicate (length (now (out .entry))) 0 ⌝ }
-{
-    star_read::clear_tables(tokens, sets, names, packets, values);
-    room::clear_bytes(out, 0);
-}
-
-// Writes the plain form, of that size, of a file whose tokens table 1 holds; bytes past it are 0.
-fn put_plain(file: &[u8], tokens: &[u32], count: usize, size: usize, out: &mut [u8], without: bool)
-    requires { ⌜ Holds (now file) (now tokens) count ⌝ }
-    requires { ⌜ size ≡ length (plainOf (keptRow without (fileTokens (now file)))) ⌝ }
-    requires { ⌜ size ≤ length (now out) ⌝ }
-    ensures { λ _. ⌜ now (out .exit) ≡ plainOf (keptRow without (fileTokens (now (file .entry)))) ++ replicate (length (now (out .entry)) - size) 0 ⌝ }
-{
-    plain::put_tokens(file, tokens, count, out, without);
-    room::clear_bytes(out, size);
 }
 
 // Writes the plain form, with header stops or without, of a file that was read into the five tables. On a refusal length, counts, tables and output are all 0.
@@ -125,19 +91,11 @@ fn finish(
         (tables (now (tokens .exit)) (now (sets .exit)) (now (names .exit)) (now (packets .exit)) (now (values .exit)))
         (now (out .entry)) (now (out .exit)) r) ⌝ }
 {
-    let written = answer(file, tokens, reading, out.len(), without);
+    let size = star_plain::put_plain(file, tokens, reading.tokens as usize, out, without);
+    let written = answer(reading, size, out.len());
     if written.refusal != 0 {
-        clear_all(tokens, sets, names, packets, values, out);
-        return written;
+        star_read::clear_tables(tokens, sets, names, packets, values);
     }
-    put_plain(
-        file,
-        tokens,
-        written.tokens as usize,
-        written.length as usize,
-        out,
-        without,
-    );
     written
 }
 

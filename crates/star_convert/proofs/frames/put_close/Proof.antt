@@ -5,9 +5,9 @@ use native.Mathlib.Omega.{arith}
 use borrow.Author.Needs.{needs}
 use borrow.Author.Tests.{eq-eqb, ne-eqb, le-leb}
 use lib.ListN.{length}
-use Rattle.star_write.specs.Put.{within}
+use Rattle.star_plain.specs.Put.{within}
 use Rattle.star_convert.specs.Inner.{otherClose}
-use Rattle.star_write.proofs.Putting.{put-same, put-none}
+use Rattle.star_plain.proofs.Putting.{put-same, put-none}
 use Rattle.star_convert.proofs.frames.put_close.Statement.{statement}
 use Rattle.star_convert.proofs.frames.put_close.Tie as tie
 

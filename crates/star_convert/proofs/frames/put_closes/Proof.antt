@@ -7,10 +7,10 @@ use lib.ListN.{length, getD}
 use Rattle.star_lex.specs.Rules.{today}
 use Rattle.star_lex.specs.Plain.{plainToken, plainBy}
 use Rattle.star_lex.specs.Holds.{fileTokens}
-use Rattle.star_write.specs.Put.{tokenOf, Filled}
+use Rattle.star_plain.specs.Put.{tokenOf, Filled}
 use Rattle.star_convert.specs.Convert.{otherRow}
-use Rattle.star_write.proofs.Putting.{fill-none}
-use Rattle.star_write.proofs.Prefix.{plainFirst}
+use Rattle.star_plain.proofs.Putting.{fill-none}
+use Rattle.star_plain.proofs.Prefix.{plainFirst}
 use Rattle.star_convert.proofs.TodayTable.{today-room, today-few}
 use Rattle.star_convert.proofs.Converting.{Swap, swap, swapped}
 use Rattle.star_convert.proofs.frames.put_closes.Statement.{statement}
