@@ -21,7 +21,7 @@ use Rattle.star_number.proofs.Exactly.{number-exact, number-pieces}
 use Rattle.star_number.proofs.Exactness.{whole-exact, power-exact, rounded-once}
 use Rattle.star_number.proofs.Finite.{floats-finite}
 use Rattle.star_number.proofs.Known.{numbers-known}
-use Rattle.star_number.proofs.InOrder.{numbers-in-order, numbers-answer}
+use Rattle.star_value_number.proofs.InOrder.{numbers-in-order, numbers-answer}
 use Rattle.star_write.proofs.Demand1.{write-answers, drop-answers}
 use Rattle.star_write.proofs.RoundTrip.{round-trip, writes-again}
 use Rattle.star_write.proofs.StopsDropped.{stops-dropped, dropped-writes-again}

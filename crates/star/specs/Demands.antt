@@ -8,7 +8,8 @@ use Rattle.star_lex.specs.Demands.{NoPairAsBefore, WindowsSplits}
 use Rattle.star_read.specs.Demands.{Usable, AcceptedExactly, OneReading, RowsOfReading, PlaceOfRefusal, RefusalNumber, NumbersExclude, GlobalNumber, SaveNumber, ReadingSettled, OneOutcome, ReadAnswers, ByLayout, WindowsReads, OldFilesReadAsBefore, OldBenchRefuses, OldBenchSameOrFour, SameOrSixteen}
 use Rattle.star_find.specs.Demands.{LookupByName, LookupBlock, LookupFrame, LookupsAnswer}
 use Rattle.star_value.specs.Demands.{ValuesInOrder, Column, SpanPart, ValuesAnswer}
-use Rattle.star_number.specs.Demands.{NumberExact, NumberPieces, WholeExact, PowerExact, RoundedOnce, FloatsFinite, NumbersKnown, NumbersInOrder, NumbersAnswer}
+use Rattle.star_number.specs.Demands.{NumberExact, NumberPieces, WholeExact, PowerExact, RoundedOnce, FloatsFinite, NumbersKnown}
+use Rattle.star_value_number.specs.Demands.{NumbersInOrder, NumbersAnswer}
 use Rattle.star_write.specs.Demands.{RoundTrip, WritesAgain, WriteAnswers, StopsDropped, DroppedWritesAgain, DropAnswers}
 use Rattle.star_convert.specs.Demands.{OverAndBack, ConvertedReads, ConvertAnswers}
 use Rattle.star_check.specs.Demands.{Fits32, Fits32No, FitsAnswers}

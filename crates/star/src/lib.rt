@@ -3,11 +3,11 @@ use star_check::Checked;
 use star_find::Counts;
 use star_find::Found;
 use star_number::Form;
-use star_number::ValueForm;
 use star_read::Answer;
 use star_text::Comparison;
 use star_value::Span;
 use star_value::Value;
+use star_value_number::ValueForm;
 use star_write::Written;
 ghost use mathlib.Core.Path.{_≡_};
 ghost use Rattle.star_text.specs.Compare.{compareOf};
@@ -18,7 +18,8 @@ ghost use Rattle.star_slots.specs.Lookup.{findSlot};
 ghost use Rattle.star_index.specs.Index.{Checks};
 ghost use Rattle.star_build.specs.Build.{Builds};
 ghost use Rattle.star_number.specs.Taken.{numberIn};
-ghost use Rattle.star_number.specs.Forms.{formOf, valueNumber, valueFormOf};
+ghost use Rattle.star_number.specs.Forms.{formOf};
+ghost use Rattle.star_value_number.specs.Forms.{valueNumber, valueFormOf};
 ghost use Rattle.star_write.specs.Answer.{Writes, DropsStops};
 ghost use Rattle.star_convert.specs.Convert.{Converts};
 ghost use Rattle.star_check.specs.Fits.{FitsChecked};
@@ -188,7 +189,7 @@ pub extern "C" fn star_value_number(
     ensures { λ r. ⌜ r ≡ valueFormOf (valueNumber (lent (now (file .entry)) (now (tokens .entry)) (now (sets .entry)) (now (names .entry)) (now (packets .entry))
         (now (values .entry))) counts name k) ⌝ }
 {
-    let found = star_number::value_number(
+    let found = star_value_number::value_number(
         file,
         tokens,
         sets,
@@ -199,7 +200,7 @@ pub extern "C" fn star_value_number(
         name,
         k,
     );
-    star_number::value_form(found)
+    star_value_number::value_form(found)
 }
 
 // Reads a file into the five tables and writes its plain form. On a refusal length, counts, tables and output are all 0.

@@ -289,7 +289,7 @@ pub fn number(given: &[u8], content: &[u8]) {
 
 // Looks a value up as a number in the tables that are lent and prints refusal and number.
 pub fn value(given: &[u8], file: &[u8], kept: &[u32]) {
-    let number = star_number::value_form(star_number::value_number(
+    let number = star_value_number::value_form(star_value_number::value_number(
         file,
         kept::lent(kept, 1),
         kept::lent(kept, 2),

@@ -10,6 +10,5 @@ pub mod Closing
 pub mod Words
 pub mod Exactly
 pub mod Exactness
-pub mod InOrder
 pub mod Finite
 pub mod Known

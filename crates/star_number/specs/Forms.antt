@@ -1,28 +1,11 @@
--- The number of a value that lookup finds, and numbers as C has them: specification 17.7 and 17.8. Believed; contracts of star_number and star cite it.
-use mathlib.Core.Bool.{cond, false}
-use mathlib.Core.List.{List}
+-- Numbers as C has them: specification 17.8. Believed; contracts of star_number and star cite it.
+use mathlib.Core.Bool.{false}
 use Prim.Native.Nat.{ℕ}
-use lib.Dec.{eqb}
 use lib.IntN.{pos}
 use lib.Ieee.{Float as F64, fin}
-use Rattle.star_find.specs.Find.{Lent}
-use Rattle.star_value.specs.Values.{valueAt, valuePart}
-use Rattle.star_find.specs.declared.Counts.{Counts}
-use Rattle.star_value.specs.declared.Value.{Value}
-use Rattle.star_number.specs.Taken.{numberIn}
 use Rattle.star_number.specs.declared.Number.{Number}
 use Rattle.star_number.specs.declared.Number.the-variants.{Float, Uncertain, Unknown, NotApplicable, TooWide, Text}
-use Rattle.star_number.specs.declared.ValueNumber.{ValueNumber}
-use Rattle.star_number.specs.declared.ValueNumber.the-variants.{Refused, Given}
 use Rattle.star_number.specs.declared.Form.{Form}
-use Rattle.star_number.specs.declared.ValueForm.{ValueForm}
-
--- a value that is refused has that refusal; one that is found is the number of its kind and its part of the file
-unfoldable pub valueNumberOf : Value → (part : List ℕ) → ValueNumber
-valueNumberOf v part = cond (eqb (v .refusal) 0) (Given (numberIn (v .kind) part)) (Refused (v .refusal))
-
-unfoldable pub valueNumber : Lent → Counts → (name k : ℕ) → ValueNumber
-valueNumber l c name k = valueNumberOf (valueAt l c name k) (valuePart l c name k)
 
 -- positive zero, where a form has no float
 abbrev pub zeroFloat : F64
@@ -39,11 +22,3 @@ formOf Unknown = form 3 zeroFloat zeroFloat
 formOf NotApplicable = form 4 zeroFloat zeroFloat
 formOf TooWide = form 5 zeroFloat zeroFloat
 formOf Text = form 6 zeroFloat zeroFloat
-
--- preceded by the refusal; a refused value has form 0
-abbrev pub valueForm : (refusal : ℕ) → Form → ValueForm
-valueForm refusal f = record { refusal = refusal; form = f .form; value = f .value; uncertainty = f .uncertainty }
-
-unfoldable pub valueFormOf : ValueNumber → ValueForm
-valueFormOf (Refused number) = valueForm number (form 0 zeroFloat zeroFloat)
-valueFormOf (Given number) = valueForm 0 (formOf number)

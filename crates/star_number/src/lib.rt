@@ -1,13 +1,11 @@
-// A value as a number with its uncertainty. Contents of any length are taken.
+// A content as a number with its uncertainty. Contents of any length are taken.
 mod float;
 mod scan;
 
 use scan::Front;
-use star_find::Counts;
 ghost use mathlib.Core.Path.{_≡_};
 ghost use lib.ListN.{drop};
-ghost use Rattle.star_find.specs.Find.{lent};
-ghost use Rattle.star_number.specs.Forms.{formOf, valueNumber, valueFormOf};
+ghost use Rattle.star_number.specs.Forms.{formOf};
 ghost use Rattle.star_number.specs.Taken.{isSingle, bracketAt, taken, wordNumber, numberIn};
 ghost use Rattle.star_number.specs.Held.{bracketHeld, bareHeld, uncertainHeld};
 
@@ -21,24 +19,9 @@ pub enum Number {
     Text,
 }
 
-// What the k-th value of a name row is: a refusal, or a number.
-pub enum ValueNumber {
-    Refused(u32),
-    Given(Number),
-}
-
 // A number for those who have no such enum: which case it is, from 1, with its floats, 0 where it has none.
 #[repr(C)]
 pub struct Form {
-    pub form: u32,
-    pub value: f64,
-    pub uncertainty: f64,
-}
-
-// The same of a value, preceded by its refusal; a refused one has form 0.
-#[repr(C)]
-pub struct ValueForm {
-    pub refusal: u32,
     pub form: u32,
     pub value: f64,
     pub uncertainty: f64,
@@ -142,33 +125,6 @@ pub fn number_of(kind: u32, content: &[u8]) -> Number
     word_number(content)
 }
 
-// What the k-th value of a name row is, k from 1, with the refusals of `value_at`.
-pub fn value_number(
-    file: &[u8],
-    tokens: &[u32],
-    sets: &[u32],
-    names: &[u32],
-    packets: &[u32],
-    values: &[u32],
-    counts: Counts,
-    name: u32,
-    k: u32,
-) -> ValueNumber
-    ensures { λ r. ⌜ r ≡ valueNumber (lent (now (file .entry)) (now (tokens .entry)) (now (sets .entry)) (now (names .entry)) (now (packets .entry))
-        (now (values .entry))) counts name k ⌝ }
-{
-    let found = star_value::locate(file, tokens, sets, names, packets, values, counts, name, k);
-    let refusal = found.refusal;
-    if refusal != 0 {
-        return ValueNumber::Refused(refusal);
-    }
-    let kind = star_rows::word(tokens, star_rows::TOKEN_WIDTH, found.token, 0);
-    ValueNumber::Given(number_of(
-        kind,
-        star_find::part(file, tokens, counts.tokens, found.token),
-    ))
-}
-
 // A number as its form.
 pub fn form_of(number: Number) -> Form
     ensures { λ r. ⌜ r ≡ formOf number ⌝ }
@@ -204,28 +160,5 @@ pub fn form_of(number: Number) -> Form
             value: 0.0,
             uncertainty: 0.0,
         },
-    }
-}
-
-// A value's number as its form.
-pub fn value_form(number: ValueNumber) -> ValueForm
-    ensures { λ r. ⌜ r ≡ valueFormOf number ⌝ }
-{
-    match number {
-        ValueNumber::Refused(refusal) => ValueForm {
-            refusal,
-            form: 0,
-            value: 0.0,
-            uncertainty: 0.0,
-        },
-        ValueNumber::Given(given) => {
-            let f = form_of(given);
-            ValueForm {
-                refusal: 0,
-                form: f.form,
-                value: f.value,
-                uncertainty: f.uncertainty,
-            }
-        }
     }
 }

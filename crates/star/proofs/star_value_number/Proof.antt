@@ -1,6 +1,6 @@
 -- `star_value_number` is `value_number` of the crate below, as its form.
 use mathlib.Core.Path.{_∙_, ap}
-use Rattle.star_number.specs.Forms.{valueFormOf}
+use Rattle.star_value_number.specs.Forms.{valueFormOf}
 use borrow.Author.Needs.{needs}
 use Rattle.star.proofs.star_value_number.Statement.{statement}
 use Rattle.star.proofs.star_value_number.Tie as tie

@@ -3,10 +3,10 @@ use mathlib.Core.Path.{_≡_, sym}
 use native.Mathlib.Omega.{arith}
 use borrow.Author.Tests.{eq-eqb, ne-eqb}
 use Rattle.star_value.specs.Values.{valueAt, valueOf, valuePart}
-use Rattle.star_number.specs.Forms.{valueNumber, valueNumberOf}
+use Rattle.star_value_number.specs.Forms.{valueNumber, valueNumberOf}
 use borrow.Author.Needs.{needs}
-use Rattle.star_number.proofs.value_number.Statement.{statement}
-use Rattle.star_number.proofs.value_number.Tie as tie
+use Rattle.star_value_number.proofs.value_number.Statement.{statement}
+use Rattle.star_value_number.proofs.value_number.Tie as tie
 
 locate-requires : tie.Need-locate-requires
 locate-requires c κs = search needs

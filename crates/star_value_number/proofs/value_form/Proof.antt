@@ -1,9 +1,9 @@
 -- `value_form` meets its contract.
 use lib.Ieee.{ofBits}
-use Rattle.star_number.specs.Forms.{valueFormOf}
+use Rattle.star_value_number.specs.Forms.{valueFormOf}
 use borrow.Author.Needs.{needs}
-use Rattle.star_number.proofs.value_form.Statement.{statement}
-use Rattle.star_number.proofs.value_form.Tie as tie
+use Rattle.star_value_number.proofs.value_form.Statement.{statement}
+use Rattle.star_value_number.proofs.value_form.Tie as tie
 
 enum-known-number : tie.Need-enum-known-number
 enum-known-number c = search needs

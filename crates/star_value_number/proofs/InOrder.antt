@@ -7,9 +7,9 @@ use Rattle.star_value.specs.declared.Value.{Value}
 use Rattle.star_value.specs.declared.Span.{Span}
 use Rattle.star_value.proofs.InOrder.{values-in-order}
 use Rattle.star_value.proofs.Demand1.{values-answer}
 use Rattle.star_number.specs.Taken.{numberIn}
-use Rattle.star_number.specs.Forms.{valueNumber, valueNumberOf, valueFormOf}
-use Rattle.star_number.specs.Demands.{NumbersInOrder, NumberAnswer, given, nowhere as number-nowhere, outside as number-outside, NumbersAnswer}
+use Rattle.star_value_number.specs.Forms.{valueNumber, valueNumberOf, valueFormOf}
+use Rattle.star_value_number.specs.Demands.{NumbersInOrder, NumberAnswer, given, nowhere as number-nowhere, outside as number-outside, NumbersAnswer}
 
 pub numbers-in-order : NumbersInOrder
 unfolding valueNumber valueNumberOf
