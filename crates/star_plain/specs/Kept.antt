@@ -1,4 +1,4 @@
--- The plain form of the rows of any table 1, with header stops or without: specification 12.4 and 21.4. Believed where `keptRow` is cited by what writing gives; the rest is for the contracts of star_plain.
+-- The plain form of the rows of any table 1, with header stops or without. For the contracts of star_plain and of star_write's inner functions.
 use mathlib.Core.Bool.{Bool, false, cond, _&&_}
 use mathlib.Core.List.{List, [], _∷_, _++_}
 use Prim.Native.Nat.{ℕ, zero, suc, _-_, _*_}
