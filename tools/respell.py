@@ -17,10 +17,10 @@ FIELDS = (
     "plain-is count-is over-size no-layout global-block data-block well-formed stops-fit stops-allowed some-packet some-names some-name of-set of-parent of-kind "
     "no-fit long-names kept-are is-value is-global are-names are-deeper other-kind not-applicable no-token-room no-reading in-layout few-slots as-reading as-old"
 ).split()
-ALIASES = {"Find·refused": "find_refused", "Find·seek": "find_seek", "Inner·mark": "inner_mark", "List·set": "list_set", "Names·same": "names_same"}
 # A field whose words are the name of a definition already.
 OTHERS = {"all-fit": "earlier_fit"}
-WORD = re.compile(r"[A-Za-z_][\w'·≢-]*")
+# A byte literal is no name, and none begins behind a backslash.
+WORD = re.compile(r"b'.'|(?<!\\)[A-Za-z_][\w'·≢-]*")
 CAMEL = re.compile(r"^[a-z][A-Za-z0-9']*[A-Z][\w'≢-]*$")
 
 
@@ -29,8 +29,10 @@ def snake(word):
 
 
 def turned(word):
-    if word in ALIASES:
-        return ALIASES[word]
+    if len(word) == 4 and word.startswith("b'") and word.endswith("'"):
+        return word
+    if "·" in word:
+        return snake(word.replace("·", "_")[0].lower() + word.replace("·", "_")[1:])
     if word in FIELDS:
         return word.replace("-", "_")
     if word in OTHERS:

@@ -1,4 +1,6 @@
 // What other languages call: each function is the library's own of that name, with its contract. include/star.h is the C header.
+#![tactic(auto)]
+
 ghost use Rattle.std.specs.Prelude.{◌≡◌};
 ghost use Rattle.star_text.specs.Compare.{compare_of};
 ghost use Rattle.star_read.specs.Answer.{tables, ReadsIn};

@@ -1,4 +1,6 @@
 // The builder of an index beside the names: each name row goes to the first slot that holds 0 from its home on.
+#![tactic(auto)]
+
 ghost use Rattle.std.specs.Prelude.{◌≡◌, ◌<◌, length};
 ghost use Rattle.star_read.specs.Answer.{tables};
 ghost use Rattle.star_slots.specs.Inner.{table_home};

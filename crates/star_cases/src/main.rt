@@ -19,6 +19,8 @@
 //     turn LAYOUT N           reads the last file in a layout and writes its plain form in the other into N bytes
 //     drop N                  reads the last file by the old rules, with header stops, and writes its plain form without them into N bytes
 // Any other line is a remark.
+#![tactic(auto)]
+
 mod calls;
 mod index;
 mod plain;

@@ -1,4 +1,6 @@
 // Checks of a file: it is read, and yes or no is answered beside the reading.
+#![tactic(auto)]
+
 ghost use Rattle.std.specs.Prelude.{◌≡◌, leb, length};
 ghost use Rattle.star_lex.specs.Rules.{old_bench};
 ghost use Rattle.star_lex.specs.Fits.{fits, all_fit};
@@ -19,7 +21,7 @@ const WIDTH: usize = star_rows::TOKEN_WIDTH as usize;
 
 // What a check answers: refusal and place, both 0 when accepted, 1 for yes and 0 for no, and the number of rows of each table.
 #[repr(C)]
-#[derive(Drop)]
+#[derive(Clone, Copy)]
 pub struct Checked {
     pub refusal: u32,
     pub place: u32,

@@ -1,4 +1,6 @@
 // Converting a STAR File from one layout into the other: its plain form there, into lent bytes.
+#![tactic(auto)]
+
 mod frames;
 
 ghost use Rattle.star_read.specs.Answer.{tables};

@@ -1,4 +1,6 @@
 // Lookup by name and code. The tables, the counts and the numbers may hold anything, and nothing is written.
+#![tactic(auto)]
+
 ghost use Rattle.std.specs.Prelude.{◌≡◌, false, cond, ◌&&◌, ◌-◌, eqb, ltb};
 ghost use Rattle.star_rows.specs.Widths.{token_width, set_width, name_width};
 ghost use Rattle.star_rows.specs.Rows.{word_of};
@@ -9,7 +11,7 @@ ghost use Rattle.star_find.specs.declared.Match.TheVariants.{Other};
 
 // How many rows each table has.
 #[repr(C)]
-#[derive(Drop)]
+#[derive(Clone, Copy)]
 pub struct Counts {
     pub tokens: u32,
     pub sets: u32,
@@ -20,14 +22,14 @@ pub struct Counts {
 
 // What a lookup answers: refusal and row, 0 where it is refused.
 #[repr(C)]
-#[derive(Drop)]
+#[derive(Clone, Copy)]
 pub struct Found {
     pub refusal: u32,
     pub row: u32,
 }
 
 // Which rows of a table are looked at: those whose first word is `first` and, by parent, whose third is `parent`.
-#[derive(Drop)]
+#[derive(Clone, Copy)]
 pub struct Wanted {
     pub width: u32,
     pub first: u32,
@@ -36,7 +38,7 @@ pub struct Wanted {
 }
 
 // How a row compares.
-#[derive(Drop)]
+#[derive(Clone, Copy)]
 pub enum Match {
     Outside,
     Equal,

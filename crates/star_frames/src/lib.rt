@@ -1,4 +1,6 @@
 // Frames of the 1991 layout: the kinds of table 1 become those of today's layout, where `save_` closes a frame, and the kinds of `stop_` are put back.
+#![tactic(auto)]
+
 ghost use Rattle.std.specs.Prelude.{◌≡◌, ◌≤◌, ◌<◌, take};
 ghost use Rattle.star_text.specs.Bytes.{most_bytes};
 ghost use Rattle.star_grammar.specs.Layout.{outside, is_between, today_kind, pass_loop, pass_name, pass_stop, fill_one, pass_value, pass_kind};
@@ -32,7 +34,7 @@ const HEADER: u32 = 1;
 const PACKETS: u32 = 2;
 
 // How far a row has come: whether a frame is open; the part of a loop; the number of names of each level, how many levels there are, the level of the packets, from 0, and how many values its packet has.
-#[derive(Drop)]
+#[derive(Clone, Copy)]
 struct Progress {
     inside: bool,
     part: u32,

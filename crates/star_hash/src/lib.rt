@@ -1,6 +1,8 @@
 // The hash by which an index finds a name of a set, 32-bit FNV-1a of the set's number and the name, and the slot where such a name belongs.
+#![tactic(auto)]
+
 ghost use Rattle.std.specs.Prelude.{◌≡◌};
-ghost use Rattle.star_hash.specs.Hash.{prime, product, mixed, fnv as Hash·fnv, hash_of, home_of};
+ghost use Rattle.star_hash.specs.Hash.{prime, product, mixed, fnv as hash_fnv, hash_of, home_of};
 
 // Where 32-bit FNV-1a begins.
 pub const BASIS: u32 = 2166136261;
@@ -21,7 +23,7 @@ fn mix(h: u32, byte: u32) -> u32
 
 // 32-bit FNV-1a of these bytes, from a hash on.
 pub fn fnv(h: u32, bytes: &[u8]) -> u32
-    ensures { result ≡ Hash·fnv h bytes.now }
+    ensures { result ≡ hash_fnv h bytes.now }
 {
     let mut state = h;
     let mut i = 0;

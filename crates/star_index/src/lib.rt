@@ -1,4 +1,6 @@
 // The check of an index beside the names: slots that hold each name row once, else 0, none of them 0 between a row's home and its slot.
+#![tactic(auto)]
+
 ghost use Rattle.std.specs.Prelude.{◌≡◌, true, false, cond, ℕ, suc, ◌+◌, ◌-◌, ◌*◌, ◌≤◌, ◌<◌, eqb, ltb, length, get_or, set as list_set};
 ghost use Rattle.star_read.specs.Answer.{tables};
 ghost use Rattle.star_slots.specs.Slots.{slot_at};

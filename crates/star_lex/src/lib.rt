@@ -1,4 +1,6 @@
 // Table 1 of a STAR File: what a row of it says, and what splitting a file into tokens answers.
+#![tactic(auto)]
+
 pub mod scan;
 pub mod word;
 
@@ -10,7 +12,7 @@ ghost use Rattle.star_lex.specs.Table.{content_in, or_empty, start_in, first_byt
 const WIDTH: usize = star_rows::TOKEN_WIDTH as usize;
 
 // What splitting a file answers: refusal and place, both 0 when accepted, and the number of tokens.
-#[derive(Drop)]
+#[derive(Clone, Copy)]
 pub struct Tokens {
     pub refusal: u32,
     pub place: u32,
@@ -18,7 +20,7 @@ pub struct Tokens {
 }
 
 // What stands at a place outside tokens: white space or a comment, a token, or a fault.
-#[derive(Drop)]
+#[derive(Clone, Copy)]
 pub enum Scanned {
     Gap(usize),
     Token {

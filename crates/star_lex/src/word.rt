@@ -3,7 +3,7 @@ ghost use Rattle.std.specs.Prelude.{◌≡◌, length};
 ghost use Rattle.star_lex.specs.Tokens.{opening};
 
 // The kind of a word, or its refusal.
-#[derive(Drop)]
+#[derive(Clone, Copy)]
 pub enum Word {
     Kind(u32),
     Ill(u32),

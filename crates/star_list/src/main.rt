@@ -1,4 +1,6 @@
 // Reads a STAR File from standard input and prints its block codes and the number of rows of each table, or its refusal.
+#![tactic(auto)]
+
 mod listing;
 
 ghost use Rattle.std.specs.Prelude.{◌≡◌, length};

@@ -1,4 +1,6 @@
 // A content as a number with its uncertainty. Contents of any length are taken.
+#![tactic(auto)]
+
 mod float;
 mod scan;
 
@@ -10,7 +12,7 @@ ghost use Rattle.star_number.specs.Held.{bracket_held, bare_held, uncertain_held
 use scan::Front;
 
 // What a value is: a float, a float with its uncertainty, unknown, not applicable, a number that is too wide, or text.
-#[derive(Drop)]
+#[derive(Clone, Copy)]
 pub enum Number {
     Float(f64),
     Uncertain(f64, f64),
@@ -22,7 +24,7 @@ pub enum Number {
 
 // A number for those who have no such enum: which case it is, from 1, with its floats, 0 where it has none.
 #[repr(C)]
-#[derive(Drop)]
+#[derive(Clone, Copy)]
 pub struct Form {
     pub form: u32,
     pub value: f64,
@@ -30,7 +32,7 @@ pub struct Form {
 }
 
 // What follows the other pieces of a number: nothing, digits in round brackets up to the end, or something else.
-#[derive(Drop)]
+#[derive(Clone, Copy)]
 pub enum Bracket {
     Absent,
     Digits(u64),

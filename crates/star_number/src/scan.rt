@@ -13,14 +13,14 @@ const TENTH_OF_MOST: u64 = 1000000000000000000;
 const BEYOND_POWER: u64 = 23;
 
 // Digits: where they end, and the whole number of them and the digits before.
-#[derive(Drop)]
+#[derive(Clone, Copy)]
 pub struct Run {
     pub end: usize,
     pub value: u64,
 }
 
 // An optional point and digits: where they end, how many digits, and the whole number that all digits are.
-#[derive(Drop)]
+#[derive(Clone, Copy)]
 pub struct FractionRun {
     pub end: usize,
     pub after: usize,
@@ -28,7 +28,7 @@ pub struct FractionRun {
 }
 
 // An optional exponent: whether it is well formed, where it ends, its sign and its whole number.
-#[derive(Drop)]
+#[derive(Clone, Copy)]
 pub struct ExponentRun {
     pub ok: bool,
     pub end: usize,
@@ -37,14 +37,14 @@ pub struct ExponentRun {
 }
 
 // A power of ten, and whether it divides.
-#[derive(Drop)]
+#[derive(Clone, Copy)]
 pub struct Power {
     pub over: bool,
     pub tens: u64,
 }
 
 // The pieces before the bracket: whether they are well formed, the sign, the digits as a whole number, the power of ten, and where they end.
-#[derive(Drop)]
+#[derive(Clone, Copy)]
 pub struct Front {
     pub ok: bool,
     pub negative: bool,
@@ -137,7 +137,7 @@ fn is_letter(content: &[u8], at: usize) -> bool
     if star_lex::scan::byte_at(content, at, b'e') {
         true
     } else {
-        star_lex::scan::byte_at(content, at, b'_e')
+        star_lex::scan::byte_at(content, at, b'E')
     }
 }
 

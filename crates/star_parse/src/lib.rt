@@ -1,4 +1,6 @@
 // The grammar over tokens: one pass over table 1 that makes the rows of tables 2 to 5.
+#![tactic(auto)]
+
 mod header;
 mod packets;
 mod progress;
@@ -18,7 +20,7 @@ use progress::Progress;
 const WIDTH: usize = star_rows::TOKEN_WIDTH as usize;
 
 // What reading the rows answers: refusal, 0 when accepted; how many tokens stand before the bad one, or all of them; and the row counts.
-#[derive(Drop)]
+#[derive(Clone, Copy)]
 pub struct Parsed {
     pub refusal: u32,
     pub tokens: usize,

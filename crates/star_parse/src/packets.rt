@@ -13,7 +13,7 @@ pub const LEVELS: usize = 8;
 
 // Where in a loop the reader is: the number of names of each level, how many levels there are, the current one, from 0, how many names it has and how
 // many values its packet, the row of its first name, and the packet around it.
-#[derive(Drop)]
+#[derive(Clone, Copy)]
 pub struct LoopState {
     pub counts: [u32; LEVELS],
     pub levels: usize,

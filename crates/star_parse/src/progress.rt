@@ -43,7 +43,7 @@ pub const TOO_DEEP: u32 = 11;
 pub const RETIRED: u32 = 16;
 
 // The refusal, 0 while there is none; the tokens and loops passed; the rows so far.
-#[derive(Drop)]
+#[derive(Clone, Copy)]
 pub struct Progress {
     pub refusal: u32,
     pub at: u32,

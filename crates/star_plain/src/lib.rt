@@ -1,4 +1,6 @@
 // The plain form of the rows of a table 1, with header stops or without, put into a lent room.
+#![tactic(auto)]
+
 mod plain;
 pub mod room;
 pub mod token;

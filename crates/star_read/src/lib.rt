@@ -1,4 +1,6 @@
 // Reading a STAR File from lent bytes into five lent tables.
+#![tactic(auto)]
+
 ghost use Rattle.std.specs.Prelude.{◌≡◌, ℕ, length};
 ghost use Rattle.star_lex.specs.Rules.{layout_rules, at_stops};
 ghost use Rattle.star_lex.specs.Split.{placed, tokens_of};
@@ -16,7 +18,7 @@ use star_parse::Parsed;
 
 // What reading answers: refusal and place, both 0 when accepted, and the number of rows of each table.
 #[repr(C)]
-#[derive(Drop)]
+#[derive(Clone, Copy)]
 pub struct Answer {
     pub refusal: u32,
     pub place: u32,
@@ -28,7 +30,7 @@ pub struct Answer {
 }
 
 // A refusal and its place, both 0 where there is none.
-#[derive(Drop)]
+#[derive(Clone, Copy)]
 pub struct Judged {
     pub refusal: u32,
     pub place: u32,

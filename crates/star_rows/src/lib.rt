@@ -1,4 +1,6 @@
 // Rows of a table: a lent slice of words holds rows of one width, one after the other.
+#![tactic(auto)]
+
 ghost use Rattle.std.specs.Prelude.{◌≡◌, [], ◌∷◌};
 ghost use Rattle.star_rows.specs.Rows.{put_row, cleared_from, word_of, has_room};
 

@@ -1,5 +1,7 @@
 // Where strings and text fields close, and the kind of a word. The functions on strings and text fields are lent the class table; where it has the
 // class of each byte, they answer what the split says.
+#![tactic(auto)]
+
 pub mod word;
 
 ghost use Rattle.std.specs.Prelude.{◌≡◌, true, ◌&&◌, ◌+◌, ◌≤◌, ◌<◌, eqb, length, get_or, drop};

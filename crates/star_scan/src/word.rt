@@ -1,7 +1,7 @@
 // The kind of a word.
 ghost use Rattle.std.specs.Prelude.{◌≡◌, false, List, [], ◌∷◌, ℕ, length};
 ghost use Rattle.star_lex.specs.Rules.{today};
-ghost use Rattle.star_lex.specs.Split.{after, limited, word_lexeme, alone as Split·alone};
+ghost use Rattle.star_lex.specs.Split.{after, limited, word_lexeme, alone as split_alone};
 ghost use Rattle.star_lex.specs.Answer.{is_some, word_answer};
 
 use star_lex::word::Word;
@@ -39,7 +39,7 @@ fn limit(kind: u32, len: usize) -> Word
 
 // A keyword that stands alone, with so many bytes after it.
 fn alone(kind: u32, rest: usize) -> Word
-    ensures { (more : ℕ) (w others : List ℕ) → length others ≡ rest → result ≡ word_answer (Split·alone more kind w others) }
+    ensures { (more : ℕ) (w others : List ℕ) → length others ≡ rest → result ≡ word_answer (split_alone more kind w others) }
 {
     if rest == 0 {
         Word::Kind(kind)

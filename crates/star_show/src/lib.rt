@@ -1,4 +1,6 @@
 // What `star_cases` is written with: lines and their notation, tables that are kept, and what is printed of them.
+#![tactic(auto)]
+
 pub mod compare;
 pub mod float;
 pub mod kept;

@@ -1,4 +1,4 @@
-// The notation of files: \n \r \t \v \f \\ and \x_nN as in C and every other byte as itself.
+// The notation of files: \n \r \t \v \f \\ and \xNN as in C and every other byte as itself.
 ghost use Rattle.std.specs.Prelude.{◌+◌, ◌<◌, ◌≤◌, length};
 
 use crate::words;

@@ -1,11 +1,13 @@
 // Lookup of a name through slots that hold name rows or 0, by a hash of the set and the name. The slots may hold anything: what makes them an index, star_index says.
+#![tactic(auto)]
+
 ghost use Rattle.std.specs.Prelude.{◌≡◌, ◌<◌, ◌≤◌, false, cond, length, ◌==◌};
 ghost use Rattle.star_rows.specs.Widths.{set_width, name_width};
 ghost use Rattle.star_rows.specs.Rows.{word_of};
 ghost use Rattle.star_find.specs.Find.{lent, refused, content_at, is_wanted, match_of, ask_globals, ask_on};
 ghost use Rattle.star_find.specs.declared.Match.TheVariants.{Other};
 ghost use Rattle.star_slots.specs.Slots.{next_slot};
-ghost use Rattle.star_slots.specs.Lookup.{probe as Lookup·probe, slot_ask, find_slot};
+ghost use Rattle.star_slots.specs.Lookup.{probe as lookup_probe, slot_ask, find_slot};
 ghost use Rattle.star_slots.specs.Inner.{refusal_of, table_home};
 
 use star_find::{Counts, Found, Match};
@@ -81,7 +83,7 @@ fn probe(
     bytes: &[u8],
 ) -> Found
     requires { home < length slots.now }
-    ensures { result ≡ Lookup·probe slots.now rows (is_wanted names.now name_width set false 0)
+    ensures { result ≡ lookup_probe slots.now rows (is_wanted names.now name_width set false 0)
         (λ row. content_at file.now tokens.now count (word_of names.now name_width row 1)) bytes.now
         (length slots.now) home }
 {

@@ -1,4 +1,6 @@
 // The split of a STAR File into tokens, which are stored as table 1.
+#![tactic(auto)]
+
 ghost use Rattle.std.specs.Prelude.{◌≡◌, List, ◌+◌, ◌≤◌, ◌<◌, length, get_or, drop, true, false, ◌&&◌, eqb};
 ghost use Rattle.star_rows.specs.Rows.{stored};
 ghost use Rattle.star_rows.specs.Widths.{token_width};
@@ -7,7 +9,7 @@ ghost use Rattle.star_text.specs.Classes.{Classes};
 ghost use Rattle.star_text.specs.Outcome.{refused, accepted};
 ghost use Rattle.star_lex.specs.Rules.{today};
 ghost use Rattle.star_lex.specs.Tokens.{Placed, token_row, opening};
-ghost use Rattle.star_lex.specs.Split.{quoted, field, field_lexeme, quoted_lexeme, word_from, split as Split·split, lexeme as Split·lexeme};
+ghost use Rattle.star_lex.specs.Split.{quoted, field, field_lexeme, quoted_lexeme, word_from, split as split_split, lexeme as split_lexeme};
 ghost use Rattle.star_lex.specs.Answer.{tokens_in, split_answer, Splits, scanned_at};
 
 use star_lex::word::Word;
@@ -95,7 +97,7 @@ fn opens_field(line: bool, b: u8) -> bool
 fn lexeme(classes: &[u8; 256], file: &[u8], at: usize, line: bool) -> Scanned
     requires at_in_bounds { at < length file.now }
     requires classes { Classes classes.now }
-    ensures { result ≡ scanned_at at (Split·lexeme today line (get_or file.now at 0) (drop (at + 1) file.now)) }
+    ensures { result ≡ scanned_at at (split_lexeme today line (get_or file.now at 0) (drop (at + 1) file.now)) }
 {
     let b = file[at];
     if star_text::is_white(classes, b) {
@@ -120,8 +122,8 @@ fn lexeme(classes: &[u8; 256], file: &[u8], at: usize, line: bool) -> Scanned
 fn split(classes: &[u8; 256], file: &[u8], table: &mut [u32]) -> Tokens
     requires file_len_bound { length file.now ≤ most_bytes }
     requires classes { Classes classes.now }
-    ensures value { result ≡ split_answer (Split·split today 0 true 0 file.now) }
-    ensures table_after { (ps : List Placed) → Split·split today 0 true 0 file.now ≡ accepted ps
+    ensures value { result ≡ split_answer (split_split today 0 true 0 file.now) }
+    ensures table_after { (ps : List Placed) → split_split today 0 true 0 file.now ≡ accepted ps
         → table.new ≡ stored token_width token_row ps table.old }
 {
     let mut at = 0;

@@ -1,4 +1,6 @@
 // The bytes of a STAR File: the class of a byte, the first byte that is not allowed, and the comparison of two names or codes.
+#![tactic(auto)]
+
 ghost use Rattle.std.specs.Prelude.{◌≡◌, ℕ, ◌+◌, ◌<◌, ◌≤◌, true, false, length, drop, slice_index};
 ghost use Rattle.star_text.specs.Bytes.{is_allowed, first_refused, leading};
 ghost use Rattle.star_text.specs.Classes.{Classes, class_in, terminate_in, white_in, below_in};
@@ -219,7 +221,7 @@ fn skip_same(a: &[u8], b: &[u8]) -> usize
 
 // What comparing two names or codes answers: whether they are equal, and how many pairs of bytes were compared.
 #[repr(C)]
-#[derive(Drop)]
+#[derive(Clone, Copy)]
 pub struct Comparison {
     pub equal: bool,
     pub pairs: usize,

@@ -1,5 +1,7 @@
 // Names and codes that are taken: the first token that repeats one of its scope. While it is looked for, the kind word of each name or code that was
 // passed holds its sign and, above that, the row of the last one before it in its bucket; the kinds are put back at the end.
+#![tactic(auto)]
+
 ghost use Rattle.std.specs.Prelude.{◌≡◌, true, false, ◌&&◌, ◌+◌, ◌*◌, ◌/◌, ◌%◌, ◌≤◌, ◌<◌, eqb, get_or};
 ghost use Rattle.star_rows.specs.Widths.{token_width};
 ghost use Rattle.star_text.specs.Names.{same as names_same};
@@ -24,7 +26,7 @@ fn span<'a>(file: &'a [u8], tokens: &[u32], count: usize, n: usize) -> &'a [u8]
 }
 
 // Where the scopes begin: the row after the heading of the open block, or after its `global_`, the row after the heading of the last frame, and whether that is open.
-#[derive(Drop)]
+#[derive(Clone, Copy)]
 struct Scope {
     block: usize,
     frame: usize,
@@ -268,7 +270,7 @@ fn first_repeat(file: &[u8], tokens: &mut [u32], count: usize) -> usize
 
 // What reading the tokens answers: refusal and place, both 0 when accepted; the number of tokens; and how many of them stand before the first that
 // repeats a name or code of its scope, all of them where none does.
-#[derive(Drop)]
+#[derive(Clone, Copy)]
 pub struct Compared {
     pub refusal: u32,
     pub place: u32,

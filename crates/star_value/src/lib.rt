@@ -1,14 +1,16 @@
 // The k-th value of a name row, by its links: its kind and packet, its part of the file, and where that lies. The tables, the counts and the numbers may hold anything, and nothing is written.
+#![tactic(auto)]
+
 ghost use Rattle.std.specs.Prelude.{◌≡◌};
 ghost use Rattle.star_lex.specs.Table.{further};
 ghost use Rattle.star_find.specs.Find.{lent};
-ghost use Rattle.star_value.specs.Values.{first_value, is_link, follow as Values·follow, value_row, locate as Values·locate, value_at, value_part, value_span};
+ghost use Rattle.star_value.specs.Values.{first_value, is_link, follow as values_follow, value_row, locate as values_locate, value_at, value_part, value_span};
 
 use star_find::{Counts, Found};
 
 // What a value is: refusal, kind and packet, both 0 where it is refused.
 #[repr(C)]
-#[derive(Drop)]
+#[derive(Clone, Copy)]
 pub struct Value {
     pub refusal: u32,
     pub kind: u32,
@@ -17,14 +19,14 @@ pub struct Value {
 
 // Where the part of a value lies in the file: its first byte and the byte after it, both 0 where it is refused.
 #[repr(C)]
-#[derive(Drop)]
+#[derive(Clone, Copy)]
 pub struct Span {
     pub start: usize,
     pub end: usize,
 }
 
 // A value that is asked for: refusal, packet and token row, both 0 where it is refused.
-#[derive(Drop)]
+#[derive(Clone, Copy)]
 pub struct Located {
     pub refusal: u32,
     pub packet: u32,
@@ -60,7 +62,7 @@ fn is_link(values: &[u32], rows: u32, name: u32, row: u32, next: u32) -> bool
 
 // The row that so many links lead to from a row on: 13 at a link of 0, 14 at one that leads elsewhere.
 fn follow(values: &[u32], rows: u32, name: u32, links: u32, row: u32) -> Found
-    ensures { result ≡ Values·follow values.now rows name links row }
+    ensures { result ≡ values_follow values.now rows name links row }
 {
     let mut left = links;
     let mut at = row;
@@ -120,7 +122,7 @@ pub fn locate(
     name: u32,
     k: u32,
 ) -> Located
-    ensures { result ≡ Values·locate (lent file.now tokens.now sets.now names.now packets.now
+    ensures { result ≡ values_locate (lent file.now tokens.now sets.now names.now packets.now
         values.now) counts name k }
 {
     if !star_find::row_there(

@@ -1,4 +1,6 @@
 // The k-th value of a name row as a number with its uncertainty.
+#![tactic(auto)]
+
 ghost use Rattle.std.specs.Prelude.{◌≡◌};
 ghost use Rattle.star_find.specs.Find.{lent};
 ghost use Rattle.star_value_number.specs.Forms.{value_number, value_form_of};
@@ -7,7 +9,7 @@ use star_find::Counts;
 use star_number::Number;
 
 // What the k-th value of a name row is: a refusal, or a number.
-#[derive(Drop)]
+#[derive(Clone, Copy)]
 pub enum ValueNumber {
     Refused(u32),
     Given(Number),
@@ -15,7 +17,7 @@ pub enum ValueNumber {
 
 // The form of that number, preceded by the refusal; a refused one has form 0.
 #[repr(C)]
-#[derive(Drop)]
+#[derive(Clone, Copy)]
 pub struct ValueForm {
     pub refusal: u32,
     pub form: u32,

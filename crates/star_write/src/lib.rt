@@ -1,4 +1,6 @@
 // Writing the plain form of a STAR File, of either layout, or of an old file without its header stops, into lent bytes.
+#![tactic(auto)]
+
 ghost use Rattle.std.specs.Prelude.{◌≡◌, Bool, List, ℕ, length};
 ghost use Rattle.star_lex.specs.Plain.{plain_of};
 ghost use Rattle.star_lex.specs.Holds.{Holds, file_tokens};
@@ -13,7 +15,7 @@ use star_read::Answer;
 
 // What writing answers: refusal and place, both 0 when written, the length of the plain form, and the number of rows of each table.
 #[repr(C)]
-#[derive(Drop)]
+#[derive(Clone, Copy)]
 pub struct Written {
     pub refusal: u32,
     pub place: u32,
