@@ -1,0 +1,11 @@
+use Rattle.std.proofs.Common.{◌≡◌, ◌+◌, ◌-◌, ◌≤◌, length, drop, sym, ◌∙◌, zero-add, arith, rules}
+use borrow.Author.Tests.{not-true, not-false}
+use Rattle.star_text.specs.Bytes.{is_allowed, leading, first_refused}
+use Rattle.star_text.proofs.Run.{run-goes, run-stops, run_ends}
+use Rattle.star_text.proofs.first_refused.Given as goal
+
+abbrev pub invariant-loop-at : goal.invariant-loop-at
+invariant-loop-at l = (l.at ≤ length l.file) × (l.at + length (leading is_allowed (drop l.at l.file)) ≡ length (leading is_allowed l.file))
+
+abbrev pub decreases-loop-at : goal.decreases-loop-at
+decreases-loop-at l = length l.file - l.at

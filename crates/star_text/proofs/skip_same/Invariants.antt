@@ -1,0 +1,10 @@
+use Rattle.std.proofs.Common.{◌-◌, length, sym, subst, arith}
+use Rattle.star_text.specs.Pairs.{Comparing, Four}
+use Rattle.star_text.proofs.Comparing.{compare-starts, compare-four, four-equal, four-differs}
+use Rattle.star_text.proofs.skip_same.Given as goal
+
+abbrev pub invariant-loop-at : goal.invariant-loop-at
+invariant-loop-at l = Comparing l.a l.b l.at
+
+abbrev pub decreases-loop-at : goal.decreases-loop-at
+decreases-loop-at l = length l.a - l.at

@@ -1,0 +1,24 @@
+-- `two` meets its contract: what is read are bytes.
+use Rattle.std.proofs.Common.{◌+◌, refl, arith, rules}
+use Rattle.star_text.proofs.two.Goals as goal
+
+pub overflow_cast-result : goal.overflow_cast-result
+overflow_cast-result c = omega (arith, c.shared_slice_known-1.given c.args.at)
+
+pub overflow_cast-result-2 : goal.overflow_cast-result-2
+overflow_cast-result-2 c = omega (arith, c.shared_slice_known-2-1.given (c.args.at + 1))
+
+pub overflow_mul-result : goal.overflow_mul-result
+overflow_mul-result c = omega (arith, c.shared_slice_known-2-1.given (c.args.at + 1))
+
+pub overflow_add-result-2 : goal.overflow_add-result-2
+overflow_add-result-2 c =
+    omega (arith, c.shared_slice_known-2-1.given c.args.at, c.shared_slice_known-2-1.given (c.args.at + 1))
+
+pub returns : goal.returns
+returns c =
+    record {
+      value = refl;
+      first = omega (arith, c.shared_slice_known-2-1.given c.args.at);
+      second = omega (arith, c.shared_slice_known-2-1.given (c.args.at + 1));
+    }
