@@ -1,0 +1,14 @@
+use mathlib.Core.Path.{◌≡◌, refl, sym, ◌∙◌, ap}
+use Prim.Native.Nat.{◌≤◌, ◌-◌}
+use native.Mathlib.Omega.{arith}
+use lib.ListN.{length, drop}
+use Rattle.star_lex.specs.Split.{after}
+use Rattle.star_lex.specs.Answer.{is_some}
+use Rattle.star_lex.proofs.Words.{after-goes, after-differs, after-ends, after-short}
+use Rattle.star_scan.proofs.word.begins.Given as goal
+
+abbrev pub invariant-loop-i : goal.invariant-loop-i
+invariant-loop-i l = (length l.first ≤ length l.word) × (after (drop l.i l.first) (drop l.i l.word) ≡ after l.first l.word)
+
+abbrev pub decreases-loop-i : goal.decreases-loop-i
+decreases-loop-i l = length l.first - l.i
