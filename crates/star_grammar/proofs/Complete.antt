@@ -1,5 +1,5 @@
 -- A run over a tree's yield makes the tree's rows: each piece takes its state to the state after it and puts the piece's rows, whatever follows.
-use mathlib.Core.Path.{◌≡◌, refl, sym, ap, ◌∙◌}
+use mathlib.Core.Path.{◌≡◌, refl, sym, ap, ◌∙◌, subst}
 use mathlib.Core.Bool.{true, cond}
 use mathlib.Core.List.{List, [], ◌∷◌, ◌++◌, map, flat_map, reverse_aux, append_assoc}
 use Prim.Native.Nat.{ℕ, zero, suc, ◌+◌, ◌≤◌, ◌<◌}
@@ -188,14 +188,18 @@ pub deeper-run : (rules : Rules) (w : Where) (first : ℕ) (before : List ℕ) (
 unfolding flat_map put_deeper pass
 deeper-run rules w first before n loop [] rest r h l s a e = refl
 deeper-run rules w first before n loop (ns ∷ nss) rest r h l s a e =
-    rw (append_assoc ns (flat_map (λ ns. loop_start ∷ ns) nss) rest, ← e)
+    let P : ℕ → Type 0 = λ k.
+        run rules (header w first before n 0) (flat_map (λ ns. loop_start ∷ ns) (ns ∷ nss) ++ rest) r
+        ≡ run rules (header w first (before_of before n (map length (ns ∷ nss))) (last_of n (map length (ns ∷ nss))) 0) rest
+        (put_deeper (set_of w) k (suc (suc (length before))) (ns ∷ nss) r) in
+    subst P e (rw (append_assoc ns (flat_map (λ ns. loop_start ∷ ns) nss) rest)
     (run-go rules (header w first before n 0) loop_start (ns ++ (flat_map (λ ns. loop_start ∷ ns) nss ++ rest)) r Sort.loop
     (header w first (n ∷ before) 0 0) (pass r) sort-loop (step-deeper rules w first before n r h (omega (arith, l)))
     ∙ (rw (zero-add (length ns)) at
     (names-run rules w first (n ∷ before) 0 ns (flat_map (λ ns. loop_start ∷ ns) nss ++ rest) (pass r) a.0))
     ∙ deeper-run rules w first (n ∷ before) (length ns) r.loops nss rest
     (put_names (set_of w) r.loops (suc (suc (length before))) ns (pass r)) s.0 (omega (arith, l)) s.1 a.1
-    (names-loops (set_of w) r.loops (suc (suc (length before))) ns (pass r)))
+    (names-loops (set_of w) r.loops (suc (suc (length before))) ns (pass r))))
 
 -- header stops
 pub stops-run : (rules : Rules) (w : Where) (first : ℕ) (before : List ℕ) (n s k : ℕ) (rest : List Token) (r : Rows) → 1 ≤ n → s + k ≤ length before

@@ -138,7 +138,7 @@ image-fixed false t x h = h
 from-fixed : (old : Bool) (most : ℕ) (t : Track) (ts : List Token) → Each Fixed ts → Each Fixed (image_from old most t ts)
 unfolding image_from
 from-fixed old most t [] h = tt
-from-fixed old most t (x ∷ xs) h = (image-fixed old t x h.0, from-fixed old most _ xs h.1)
+from-fixed old most t (x ∷ xs) h = (image-fixed old t x h.0, from-fixed old most (pass_kind most t (image old t x).kind) xs h.1)
 
 pub row-fixed : (rules : Rules) (ts : List Token) → Each Fixed ts → Each Fixed (today_row rules ts)
 row-fixed rules ts h = rw (row-image rules ts) (from-fixed rules.stop_closes rules.levels (outside false) ts h)
@@ -163,7 +163,7 @@ image-mark false t x b = refl
 from-marks : (old : Bool) (most : ℕ) (t : Track) (b : Bool) (ts : List Token) → marks b (image_from old most t ts) ≡ marks b ts
 unfolding image_from
 from-marks old most t b [] = refl
-from-marks old most t b (x ∷ xs) = from-marks old most _ (mark (sort_of (image old t x).kind) b) xs ∙ ap (λ c. marks c xs) (image-mark old t x b)
+from-marks old most t b (x ∷ xs) = from-marks old most (pass_kind most t (image old t x).kind) (mark (sort_of (image old t x).kind) b) xs ∙ ap (λ c. marks c xs) (image-mark old t x b)
 
 pub row-marks : (rules : Rules) (b : Bool) (ts : List Token) → marks b (today_row rules ts) ≡ marks b ts
 row-marks rules b ts = ap (marks b) (row-image rules ts) ∙ from-marks rules.stop_closes rules.levels (outside false) b ts

@@ -1,6 +1,6 @@
 -- The rows of a tree against its names and codes. Each piece of a tree puts rows whose tokens are its own, so the rows of names, each with its
 -- set and the content of its token, are the tree's names in file order, and the rows of sets its codes.
-use mathlib.Core.Path.{◌≡◌, refl, sym, ◌∙◌, ap}
+use mathlib.Core.Path.{◌≡◌, refl, sym, ◌∙◌, ap, subst}
 use mathlib.Core.List.{List, [], ◌∷◌, ◌++◌, map, flat_map, append-nil, append_assoc, map-append}
 use Prim.Native.Nat.{ℕ, zero, suc, ◌+◌, ◌-◌, ◌≤◌}
 use native.Mathlib.Nat.{add-zero, zero-add}
@@ -341,7 +341,8 @@ module _ {ts : List Token} where
   puts-blocks close (b ∷ f) sets r h =
       let codes : List (List ℕ) = flat_map frame_codes b.members in
       let code : List ℕ → ℕ × ℕ × List ℕ = λ c. (2, next r.sets, c) in
-      rw (← h)
+      let P : ℕ → Type 0 = λ s. Piece ts (file_yield close (b ∷ f)) (file_names s (b ∷ f)) (file_sets s (b ∷ f)) r (fold put_block (b ∷ f) r) in
+      subst P h
       (then-counted (puts-block close b r)
       (λ c. puts-blocks close f (next r.sets + length codes) (put_block b r) (omega (arith, c, length-map codes code))))
 
