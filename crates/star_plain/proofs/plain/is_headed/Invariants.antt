@@ -1,0 +1,13 @@
+use mathlib.Core.Path.{◌≡◌, refl, sym, ◌∙◌, ap}
+use mathlib.Core.List.{List}
+use Prim.Native.Nat.{ℕ, suc, ◌-◌, ◌≤◌}
+use native.Mathlib.Omega.{arith}
+use Rattle.star_plain.specs.Kept.{headed_at}
+use Rattle.star_plain.proofs.Keeping.{headed-stop, headed-other, headed-none}
+use Rattle.star_plain.proofs.plain.is_headed.Given as goal
+
+abbrev pub invariant-loop-m : goal.invariant-loop-m
+invariant-loop-m l = (l.m ≤ l.n) × ((file : List ℕ) → headed_at file l.tokens l.m ≡ headed_at file l.tokens l.n)
+
+abbrev pub decreases-loop-m : goal.decreases-loop-m
+decreases-loop-m l = l.m

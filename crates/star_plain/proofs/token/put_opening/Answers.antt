@@ -1,0 +1,33 @@
+-- `put_opening` meets its contract: as many bytes are put as stand before the content.
+use mathlib.Core.Path.{◌≡◌, ◌∙◌, ap}
+use Prim.Native.Nat.{◌-◌}
+use native.Mathlib.Nat.{sub-zero}
+use native.Mathlib.Omega.{arith}
+use borrow.Author.Rules.{rules}
+use lib.ListN.{length, take}
+use Rattle.star_lex.specs.Tokens.{opening}
+use Rattle.star_plain.proofs.Putting.{put_same}
+use Rattle.star_plain.proofs.token.put_opening.Goals.{After-put_bytes-arg-2-1}
+use Rattle.star_plain.proofs.token.put_opening.Goals as goal
+
+pub slice_bounds-put_bytes-count : goal.slice_bounds-put_bytes-count
+slice_bounds-put_bytes-count c = omega arith
+
+pub slice_bounds-put_bytes-start : goal.slice_bounds-put_bytes-start
+slice_bounds-put_bytes-start c = omega arith
+
+pub slice_bounds-put_bytes-end : goal.slice_bounds-put_bytes-end
+slice_bounds-put_bytes-end c = omega (arith, c.lead.ensures, c.opening_bytes-bytes.ensures.kind_len_bound)
+
+-- the bytes that are put
+put : (c : After-put_bytes-arg-2-1)
+    → take (c.lead.result - 0) c.opening_bytes-bytes.result ≡ opening c.args.kind
+put c =
+    ap (λ n. take n c.opening_bytes-bytes.result) (sub-zero _ ∙ c.lead.ensures)
+    ∙ c.opening_bytes-bytes.ensures.result_value
+
+pub put_bytes-requires : goal.put_bytes-requires
+put_bytes-requires c = omega (arith, ap length (put c), c.requires)
+
+pub returns : goal.returns
+returns c = put_same (put (goal.at.returns c).After-put_bytes-arg-2-1) c.put_bytes.ensures
