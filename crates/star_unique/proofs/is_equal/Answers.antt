@@ -1,0 +1,29 @@
+-- `is_equal` meets its contract, by the test on the sign and the comparison of the bytes.
+use mathlib.Core.Path.{◌∙◌, ap}
+use borrow.Author.Tests.{eq-eqb, ne_eqb}
+use native.Mathlib.Omega.{arith}
+use borrow.Author.Rules.{rules}
+use Rattle.star_text.specs.Compare.{compare_of}
+use Rattle.star_unique.proofs.Marks.{Span, spans-at}
+use Rattle.star_unique.proofs.is_equal.Goals.{Start}
+use Rattle.star_unique.proofs.is_equal.Goals as goal
+
+held : (c : Start) → Span c.args.file.now c.args.tokens.now c.args.m
+held c = spans-at _ _ _ c.requires.spans _ c.requires.m_lt_count
+
+pub overflow_mul-m : goal.overflow_mul-m
+overflow_mul-m c = omega (arith, (held (goal.at.overflow_mul-m c).Start).room)
+
+pub offset_bounds-tokens-m : goal.offset_bounds-tokens-m
+offset_bounds-tokens-m c = omega (arith, (held (goal.at.offset_bounds-tokens-m c).Start).room)
+
+pub bounds-tokens-m : goal.bounds-tokens-m
+bounds-tokens-m c = omega (arith, (held (goal.at.bounds-tokens-m c).Start).room)
+
+pub returns-then-tokens-m : goal.returns-then-tokens-m
+returns-then-tokens-m c = rw (ne_eqb _ _ c.if-tokens-m.true)
+
+pub returns : goal.returns
+unfolding compare_of
+returns c =
+    ap (λ r. r.equal) c.compare-compared.ensures ∙ rw (eq-eqb _ _ c.if-tokens-m.false, c.span.ensures)
