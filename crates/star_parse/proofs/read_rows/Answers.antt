@@ -13,14 +13,16 @@ use Rattle.star_parse.proofs.read_rows.Goals as goal
 
 pub returns-then-not-has_rows : goal.returns-then-not-has_rows
 unfolding rows_run
-returns-then-not-has_rows c = rw (sym c.has_rows.ensures ∙ c.if-not-has_rows.true) (c.refused.ensures, λ _. refl)
+returns-then-not-has_rows c = rw (sym c.has_rows.ensures ∙ c.if-not-has_rows.true) record { answers = c.refused.ensures; values_unchanged = λ _. refl }
 
 -- the table has the rows
 has : (c : Else-not-has_rows) → has_rows c.args.count (length c.args.tokens.now) ≡ true
-has c = sym c.has_rows.ensures ∙ not-false _ c.if-not-has_rows.false-raw
+has c = sym c.has_rows.ensures ∙ c.if-not-has_rows.false
 
 pub read_blocks-p-requires : goal.read_blocks-p-requires
-read_blocks-p-requires c = has-rows-fits _ _ (has (goal.at.read_blocks-p-requires c).Else-not-has_rows)
+read_blocks-p-requires c =
+    let fits = has-rows-fits _ _ (has (goal.at.read_blocks-p-requires c).Else-not-has_rows) in
+    record { token_width_in_bounds = fits.0; count_le_most_bytes = fits.1 }
 
 pub returns-then-p-ne0 : goal.returns-then-p-ne0
 unfolding rows_run

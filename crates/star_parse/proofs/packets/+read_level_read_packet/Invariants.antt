@@ -1,0 +1,28 @@
+use mathlib.Core.Path.{◌≡◌}
+use mathlib.Core.List.{List}
+use Prim.Native.Nat.{ℕ, ◌+◌, ◌-◌, ◌≤◌}
+use lib.ListN.{length}
+use Rattle.star_lex.specs.Rules.{Rules}
+use Rattle.star_grammar.specs.Machine.{Where, Level}
+use Rattle.star_parse.specs.Parsed.{four_tables}
+use Rattle.star_parse.specs.Reader.{Bounds, LeadsWith, Around, Columns, at_level}
+use Rattle.star_parse.proofs.packets.+read_level_read_packet.Given as goal
+
+-- twice the levels left, the current one among them, and one more
+abbrev pub decreases-read_level : goal.decreases-read_level
+decreases-read_level l = (l.s.levels - l.s.level) + (l.s.levels - l.s.level) + 1
+
+abbrev pub decreases-read_packet : goal.decreases-read_packet
+decreases-read_packet l = (l.s.levels - l.s.level) + (l.s.levels - l.s.level)
+
+abbrev pub invariant-read_level-loop-p : goal.invariant-read_level-loop-p
+invariant-read_level-loop-p l =
+    Bounds l.count l.tokens l.p × (l.initial.p.at ≤ l.p.at) × (length l.began ≡ length l.initial.began) × (length l.packets ≡ length l.initial.packets)
+    × (length l.values ≡ length l.initial.values)
+    × ((rules : Rules) (w : Where) (outer : List Level) (base : ℕ) (sets names : List ℕ) → Around l.s outer base
+    → LeadsWith rules l.count l.tokens (at_level w outer l.s) (Columns base l.s.counts l.s.levels l.initial.began) l.initial.p
+    (four_tables sets names l.initial.packets l.initial.values)
+    (at_level w outer l.s) (Columns base l.s.counts l.s.levels l.began) l.p (four_tables sets names l.packets l.values))
+
+abbrev pub decreases-read_level-loop-p : goal.decreases-read_level-loop-p
+decreases-read_level-loop-p l = l.count - l.p.at
