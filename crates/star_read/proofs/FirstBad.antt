@@ -75,7 +75,7 @@ module _ (rules : Rules) where
   pub bad-once : {file : List ℕ} {ps : List Placed} {n place m other : ℕ} → Bad rules file ps n place → Bad rules file ps m other → (n ≡ m) × (place ≡ other)
   bad-once (Bad.token n p t q e b k h) (Bad.token m p' t' q' e' b' k' h') =
       let s : (p ≡ p') × (t ≡ t') = one_place (λ l. Begins rules (tokens_only l)) begins-part p t q p' t' q' (sym e ∙ e') b k b' k' in
-      (numbers-exclude h (rw (← s.0, ← s.1) at h'), ap (λ u. u.at) s.1)
+      (numbers-exclude h (rw (← s.0, ← ap (λ u. u.token) s.1) at h'), ap (λ u. u.at) s.1)
   bad-once (Bad.token n p t q e b k h) (Bad.end m b' h') = absurd (k (next-begins _ p t q e b'))
   bad-once (Bad.end n b h) (Bad.token m p t q e b' k h') = absurd (k (next-begins _ p t q e b))
   bad-once (Bad.end n b h) (Bad.end m b' h') = (end-numbers-exclude h h', refl)

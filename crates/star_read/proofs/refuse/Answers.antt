@@ -1,0 +1,10 @@
+-- `refuse` meets its contract: the tables are cleared.
+use mathlib.Core.Path.{refl}
+use borrow.Author.Rules.{rules}
+use Rattle.star_read.specs.Answer.{read_answer}
+use Rattle.star_read.proofs.refuse.Goals as goal
+
+pub returns : goal.returns
+unfolding read_answer
+returns c =
+    record { answer = refl; leaves = c.clear_tables.ensures _ _ }
