@@ -1,0 +1,18 @@
+use mathlib.Core.Path.{◌≡◌, refl, sym, ◌∙◌, ap}
+use mathlib.Core.Bool.{◌&&◌}
+use Prim.Native.Nat.{◌+◌, ◌-◌, ◌≤◌}
+use native.Mathlib.Omega.{arith}
+use borrow.Author.Tests.{not-true, not-false}
+use lib.ListN.{drop}
+use Rattle.star_lex.specs.Rules.{old_bench}
+use Rattle.star_lex.specs.Fits.{all_fit}
+use Rattle.star_lex.specs.Holds.{file_tokens}
+use Rattle.star_check.proofs.Fitting.{fit_next, fit-end}
+use Rattle.star_check.proofs.all_fit.Given as goal
+
+abbrev pub invariant-loop-n : goal.invariant-loop-n
+invariant-loop-n l =
+    (l.n ≤ l.count) × (all_fit old_bench.longest (drop l.n (file_tokens l.file)) ≡ all_fit old_bench.longest (file_tokens l.file))
+
+abbrev pub decreases-loop-n : goal.decreases-loop-n
+decreases-loop-n l = l.count - l.n

@@ -1,0 +1,7 @@
+-- `write` is `write_layout` of layout 0, which is today's.
+use borrow.Author.Rules.{rules}
+use Rattle.star_write.proofs.Outcomes.{writes-today}
+use Rattle.star_write.proofs.write.Goals as goal
+
+pub returns : goal.returns
+returns c = writes-today _ _ _ _ _ _ c.write_layout.ensures
