@@ -15,10 +15,10 @@ pub returns-then-all_fit : goal.returns-then-all_fit
 returns-then-all_fit c =
     λ words e.
     c.answered-then-all_fit.ensures
-    ∙ reads-checked _ words _ e c.if-reading-ne0.false true (sym c.earlier_fit.ensures ∙ c.if-all_fit.true)
+    ∙ reads-checked _ words _ e c.if-reading-ne0.false true (sym c.all_fit.ensures ∙ c.if-all_fit.true)
 
 pub returns : goal.returns
 returns c =
     λ words e.
     c.answered-2.ensures
-    ∙ reads-checked _ words _ e c.if-reading-ne0.false false (sym c.earlier_fit.ensures ∙ c.if-all_fit.false)
+    ∙ reads-checked _ words _ e c.if-reading-ne0.false false (sym c.all_fit.ensures ∙ c.if-all_fit.false)

@@ -4,24 +4,15 @@ use Rattle.star_read.specs.Read.{Sizes}
 use Rattle.star_read.specs.Answer.{tables, sizes}
 use Rattle.star_read.proofs.Accepted.{read-holds}
 use Rattle.star_check.proofs.Fitting.{leaves-checked}
-use Rattle.star_check.proofs.fits_32.Goals.{Start}
 use Rattle.star_check.proofs.fits_32.Goals as goal
 
-abbrev read : tie.After-answer-arg → tie.After-read
-read c = c.before.before.before.before.before.before.before.before.before.before.before
-
--- the words of the five tables
-abbrev words : Start → Sizes
-words c = sizes (tables c.args.tokens.now c.args.sets.now c.args.names.now c.args.packets.now c.args.values.now)
-
 pub answer-requires : goal.answer-requires
-answer-requires c = read-holds _ (words (entry (read c))) _ (read c).read.ensures.answer _ (read c).read.ensures.leaves
+answer-requires c = read-holds _ ((sizes (tables c.args.tokens.now c.args.sets.now c.args.names.now c.args.packets.now c.args.values.now))) _ c.read-reading.ensures.answer _ c.read-reading.ensures.leaves
 
 pub returns : goal.returns
 returns c =
-    let done = read c in
-    let size = words (entry done) in
+    let size = (sizes (tables c.args.tokens.now c.args.sets.now c.args.names.now c.args.packets.now c.args.values.now)) in
     record {
-      answer = c.answer.ensures size done.read.ensures.answer;
-      leaves = leaves-checked (entry done).args.file.now size done.read.ensures.leaves;
+      answer = c.answer.ensures size c.read-reading.ensures.answer;
+      leaves = leaves-checked c.args.file.now size c.read-reading.ensures.leaves;
     }

@@ -14,6 +14,7 @@ use Rattle.star_find.specs.declared.Found.{Found}
 use Rattle.star_find.specs.declared.Match.{Match}
 use Rattle.star_find.specs.declared.Match.TheVariants.{Other}
 use Rattle.star_find.proofs.Looking.{decided, seek-at, seek-over}
+use Rattle.star_find.proofs.seek.Invariants.{from_first, from_at}
 use Rattle.star_find.proofs.seek.Goals as goal
 
 pub loop-i-init : goal.loop-i-init
