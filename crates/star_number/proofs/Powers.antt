@@ -6,7 +6,7 @@ use Prim.Native.Nat.{ℕ, zero, suc, ◌+◌, ◌-◌, ◌≤◌, ◌<◌, ◌^�
 use native.Mathlib.Omega.{arith}
 use borrow.Author.Tests.{lt-ltb, le-ltb}
 use lib.Dec.{ltb}
-use lib.IntN.{pos, negsuc, neg_ℤ, ◌+ℤ◌, ◌-ℤ◌, neg_ℤ-+ℤ}
+use lib.IntN.{pos, negsuc, neg_ℤ, ◌-ℤ◌, neg_ℤ-+ℤ}
 use Rattle.star_number.specs.Held.{most_counted, counted, signed_by, is_negative, power_held}
 use Rattle.star_number.specs.declared.scan.Power.{Power}
 use Rattle.star_number.proofs.Counting.{order, counted-small, counted-most}

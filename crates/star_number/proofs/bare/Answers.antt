@@ -1,6 +1,5 @@
 -- `bare` meets its contract.
 use mathlib.Core.Path.{sym, ◌∙◌}
-use borrow.Author.Rules.{rules}
 use Rattle.star_number.specs.Held.{bare_held, float_held}
 use Rattle.star_number.proofs.Ranges.{whole_in_range}
 use Rattle.star_number.proofs.bare.Goals as goal

@@ -1,7 +1,6 @@
 -- `is_single` meets its contract.
 use mathlib.Core.Path.{sym}
 use Rattle.star_number.proofs.Places.{single-one, single-other}
-use borrow.Author.Rules.{rules}
 use Rattle.star_number.proofs.is_single.Goals as goal
 
 pub returns-then-content-eq1 : goal.returns-then-content-eq1

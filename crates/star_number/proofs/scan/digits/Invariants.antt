@@ -1,12 +1,7 @@
-use mathlib.Core.Path.{◌≡◌, refl, sym, ◌∙◌, ap}
-use Prim.Native.Nat.{◌+◌, ◌≤◌, ◌-◌}
-use native.Mathlib.Omega.{arith}
-use borrow.Author.Rules.{rules}
-use borrow.Author.Tests.{not-true, not-false}
+use mathlib.Core.Path.{◌≡◌}
+use Prim.Native.Nat.{◌≤◌, ◌-◌}
 use lib.ListN.{length, drop}
 use Rattle.star_number.specs.Held.{most_counted, digits_held}
-use Rattle.star_number.proofs.Counting.{counted-le}
-use Rattle.star_number.proofs.Digits.{digits-go, digits-stop, digits-end}
 use Rattle.star_number.proofs.scan.digits.Given as goal
 
 abbrev pub invariant-loop-at : goal.invariant-loop-at

@@ -3,11 +3,9 @@ use mathlib.Core.Path.{◌≡◌, sym, ◌∙◌, ap}
 use mathlib.Core.Bool.{true}
 use Prim.Native.Nat.{◌+◌, ◌≤◌, ◌<◌}
 use native.Mathlib.Omega.{arith}
-use borrow.Author.Tests.{not-true, not-false}
 use lib.ListN.{length, drop}
 use Rattle.star_number.specs.Held.{letter_next}
 use Rattle.star_number.proofs.Held.{letter-inside, exponent-none, exponent-some, sign-length-le}
-use borrow.Author.Rules.{rules}
 use Rattle.star_number.proofs.scan.exponent_at.Goals.{After-sign_length, Else-not-is_letter}
 use Rattle.star_number.proofs.scan.exponent_at.Goals as goal
 
@@ -16,7 +14,7 @@ returns-then-not-is_letter c = sym (exponent-none _ _ (sym c.is_letter.ensures �
 
 -- after a letter
 letter : (c : Else-not-is_letter) → letter_next (drop c.args.at c.args.content.now) ≡ true
-letter c = sym c.is_letter.ensures ∙ not-false _ c.if-not-is_letter.false-raw
+letter c = sym c.is_letter.ensures ∙ c.if-not-is_letter.false
 
 within : (c : Else-not-is_letter) → c.args.at < length c.args.content.now
 within c = letter-inside _ _ (letter c)

@@ -2,12 +2,10 @@
 use mathlib.Core.Path.{◌≡◌, sym, ◌∙◌}
 use mathlib.Core.Bool.{true}
 use native.Mathlib.Omega.{arith}
-use borrow.Author.Tests.{not-true, not-false}
 use lib.ListN.{length, drop}
 use Prim.Native.Nat.{◌<◌}
 use Rattle.star_lex.specs.Split.{starts}
 use Rattle.star_number.proofs.Held.{inside, fraction-none, fraction-some}
-use borrow.Author.Rules.{rules}
 use Rattle.star_number.proofs.scan.fraction_at.Goals.{Else-not-byte_at}
 use Rattle.star_number.proofs.scan.fraction_at.Goals as goal
 
@@ -16,7 +14,7 @@ returns-then-not-byte_at c = sym (fraction-none _ _ _ c.requires (sym c.byte_at.
 
 -- after a point
 point : (c : Else-not-byte_at) → starts 46 (drop c.args.at c.args.content.now) ≡ true
-point c = sym c.byte_at.ensures ∙ not-false _ c.if-not-byte_at.false-raw
+point c = sym c.byte_at.ensures ∙ c.if-not-byte_at.false
 
 within : (c : Else-not-byte_at) → c.args.at < length c.args.content.now
 within c = inside 46 _ _ (point c)

@@ -10,7 +10,6 @@ use Rattle.star_number.specs.declared.scan.Front.{Front}
 use Rattle.star_number.specs.Held.{digits_held, front_held}
 use Rattle.star_number.proofs.Counting.{counted-le}
 use Rattle.star_number.proofs.Fronts.{front-held}
-use borrow.Author.Rules.{rules}
 use Rattle.star_number.proofs.scan.front_of.Goals.{After-power_of-by}
 use Rattle.star_number.proofs.scan.front_of.Goals as goal
 

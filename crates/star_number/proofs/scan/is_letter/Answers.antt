@@ -1,7 +1,6 @@
 -- `is_letter` meets its contract.
 use mathlib.Core.Path.{sym, ◌∙◌}
 use Rattle.star_number.proofs.Held.{letter-next}
-use borrow.Author.Rules.{rules}
 use Rattle.star_number.proofs.scan.is_letter.Goals as goal
 
 pub returns-then-byte_at : goal.returns-then-byte_at

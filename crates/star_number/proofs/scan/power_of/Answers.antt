@@ -1,5 +1,4 @@
 -- `power_of` meets its contract.
-use borrow.Author.Rules.{rules}
 use Rattle.star_number.proofs.Powers.{held_both, held_below, held-above}
 use Rattle.star_number.proofs.scan.power_of.Goals as goal
 

@@ -2,7 +2,6 @@
 use mathlib.Core.Path.{sym, ◌∙◌}
 use Rattle.star_number.specs.Pieces.{sign_bytes}
 use Rattle.star_number.specs.Taken.{sign_at}
-use borrow.Author.Rules.{rules}
 use Rattle.star_number.proofs.scan.sign_length.Goals as goal
 
 pub returns-then-byte_at : goal.returns-then-byte_at

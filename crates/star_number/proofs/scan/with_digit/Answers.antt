@@ -4,7 +4,6 @@ use Prim.Native.Nat.{◌+◌, ◌-◌, ◌*◌}
 use native.Mathlib.Omega.{arith}
 use Rattle.star_number.proofs.Counting.{counted-small, counted-most}
 use Rattle.star_number.proofs.Places.{digit_low, digit-high}
-use borrow.Author.Rules.{rules}
 use Rattle.star_number.proofs.scan.with_digit.Goals as goal
 
 pub returns-then-value-ge-TENTH_OF_MOST : goal.returns-then-value-ge-TENTH_OF_MOST
