@@ -1,0 +1,22 @@
+use mathlib.Core.Path.{◌≡◌, refl, ◌∙◌}
+use mathlib.Core.List.{flat_map}
+use Prim.Native.Nat.{◌-◌, ◌*◌, ◌≤◌, ◌<◌}
+use native.Mathlib.Omega.{arith}
+use lib.ListN.{length, get_or}
+use Rattle.star_lex.specs.Rules.{today}
+use Rattle.star_lex.specs.Plain.{plain_token, plain_by}
+use Rattle.star_lex.specs.Holds.{file_tokens}
+use Rattle.star_plain.specs.Put.{token_of, Filled}
+use Rattle.star_convert.specs.Convert.{other_row}
+use Rattle.star_plain.proofs.Putting.{fill_none}
+use Rattle.star_plain.proofs.Prefix.{plain_first}
+use Rattle.star_convert.proofs.TodayTable.{today-room, today-few}
+use Rattle.star_convert.proofs.Converting.{Swap, swap, swapped}
+use Rattle.star_convert.proofs.frames.put_closes.Given as goal
+
+abbrev pub invariant-loop-n : goal.invariant-loop-n
+invariant-loop-n l =
+    (l.n ≤ l.count) × Filled (plain_first l.n (other_row l.layout (file_tokens l.file))) l.initial.out l.out l.at × (length l.out ≡ length l.initial.out)
+
+abbrev pub decreases-loop-n : goal.decreases-loop-n
+decreases-loop-n l = l.count - l.n
