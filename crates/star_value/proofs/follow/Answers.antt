@@ -15,15 +15,15 @@ loop-left-init c = refl
 pub returns-then-next-eq0 : goal.returns-then-next-eq0
 unfolding refused
 returns-then-next-eq0 c =
-    let some_left : 0 < c.loop-left.false = omega arith in
+    let some_left : 0 < c.loop-left.left = omega arith in
     let last : c.word-next.result ≡ 0 = omega (arith, c.if-next-eq0.true) in
-    sym (follow-end _ _ _ c.loop-left.false c.loop-left.at c.word-next.result some_left c.word-next.ensures last) ∙ c.loop-left.invariant
+    sym (follow-end _ _ _ c.loop-left.left c.loop-left.at c.word-next.result some_left c.word-next.ensures last) ∙ c.loop-left.invariant
 
 pub returns-then-not-is_link : goal.returns-then-not-is_link
 unfolding refused
 returns-then-not-is_link c =
-    let some_left : 0 < c.loop-left.false = omega arith in
-    sym (follow-outside _ _ _ c.loop-left.false c.loop-left.at c.word-next.result some_left c.word-next.ensures
+    let some_left : 0 < c.loop-left.left = omega arith in
+    sym (follow-outside _ _ _ c.loop-left.left c.loop-left.at c.word-next.result some_left c.word-next.ensures
     (λ z. omega (arith, c.if-next-eq0.false, z)) (sym c.is_link.ensures ∙ c.if-not-is_link.true)) ∙ c.loop-left.invariant
 
 pub overflow_sub-left : goal.overflow_sub-left
@@ -34,12 +34,12 @@ loop-left-smaller c = omega arith
 
 pub loop-left-preserved : goal.loop-left-preserved
 loop-left-preserved c =
-    let some_left : 0 < c.loop-left.false = omega arith in
-    sym (follow-link _ _ _ c.loop-left.false c.loop-left.at c.word-next.result some_left c.word-next.ensures
+    let some_left : 0 < c.loop-left.left = omega arith in
+    sym (follow-link _ _ _ c.loop-left.left c.loop-left.at c.word-next.result some_left c.word-next.ensures
     (λ z. omega (arith, c.if-next-eq0.false, z)) (sym c.is_link.ensures ∙ c.if-not-is_link.false)) ∙ c.loop-left.invariant
 
 pub returns : goal.returns
 unfolding found
 returns c =
-    let none_left : c.loop-left.false ≡ 0 = omega arith in
-    sym (follow-done _ _ _ c.loop-left.false c.loop-left.at none_left) ∙ c.loop-left.invariant
+    let none_left : c.loop-left.left ≡ 0 = omega arith in
+    sym (follow-done _ _ _ c.loop-left.left c.loop-left.at none_left) ∙ c.loop-left.invariant
