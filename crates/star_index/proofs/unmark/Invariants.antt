@@ -1,0 +1,14 @@
+use mathlib.Core.Path.{◌≡◌}
+use Prim.Native.Nat.{◌+◌, ◌-◌, ◌*◌, ◌≤◌, ◌<◌}
+use native.Mathlib.Omega.{arith}
+use lib.ListN.{length}
+use Rattle.star_text.proofs.Cases.{impossible}
+use Rattle.star_index.specs.Inner.{Cleaned}
+use Rattle.star_index.proofs.Marking.{cleaned-none, cleaned-next, cleaned-missing}
+use Rattle.star_index.proofs.unmark.Given as goal
+
+abbrev pub invariant-loop-i : goal.invariant-loop-i
+invariant-loop-i l = (l.i ≤ l.rows) × Cleaned l.i l.initial.names l.names
+
+abbrev pub decreases-loop-i : goal.decreases-loop-i
+decreases-loop-i l = l.rows - l.i
