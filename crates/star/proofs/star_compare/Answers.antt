@@ -1,0 +1,6 @@
+-- `star_compare` meets its contract, which is that of `compare`.
+use borrow.Author.Rules.{rules}
+use Rattle.star.proofs.star_compare.Goals as goal
+
+pub returns : goal.returns
+returns c = c.compare.ensures

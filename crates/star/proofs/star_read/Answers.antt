@@ -1,0 +1,6 @@
+-- `star_read` is `read_layout` of the crate below, with its contract.
+use borrow.Author.Rules.{rules}
+use Rattle.star.proofs.star_read.Goals as goal
+
+pub returns : goal.returns
+returns c = c.read_layout.ensures
