@@ -189,9 +189,9 @@ unfolding flat_map put_deeper pass
 deeper-run rules w first before n loop [] rest r h l s a e = refl
 deeper-run rules w first before n loop (ns ∷ nss) rest r h l s a e =
     let P : ℕ → Type 0 = λ k.
-        run rules (header w first before n 0) (flat_map (λ ns. loop_start ∷ ns) (ns ∷ nss) ++ rest) r
-        ≡ run rules (header w first (before_of before n (map length (ns ∷ nss))) (last_of n (map length (ns ∷ nss))) 0) rest
-        (put_deeper (set_of w) k (suc (suc (length before))) (ns ∷ nss) r) in
+    run rules (header w first before n 0) (flat_map (λ ns. loop_start ∷ ns) (ns ∷ nss) ++ rest) r
+    ≡ run rules (header w first (before_of before n (map length (ns ∷ nss))) (last_of n (map length (ns ∷ nss))) 0) rest
+    (put_deeper (set_of w) k (suc (suc (length before))) (ns ∷ nss) r) in
     subst P e (rw (append_assoc ns (flat_map (λ ns. loop_start ∷ ns) nss) rest)
     (run-go rules (header w first before n 0) loop_start (ns ++ (flat_map (λ ns. loop_start ∷ ns) nss ++ rest)) r Sort.loop
     (header w first (n ∷ before) 0 0) (pass r) sort-loop (step-deeper rules w first before n r h (omega (arith, l)))

@@ -12,7 +12,7 @@ use Rattle.star_text.proofs.Cases.{impossible, cond-by}
 use Rattle.star_grammar.specs.Tables.{Rows}
 use Rattle.star_grammar.specs.Machine.{Sort, sort_of, State, Step, go, refuse, step, step_at, walk}
 use Rattle.star_grammar.specs.Layout.{Track, is_between, today_kind, pass_sort, pass_kind, today_token, today_from, old_token, old_row}
-use Rattle.star_grammar.specs.Tree.{frame_end, stop}
+use Rattle.star_grammar.specs.Tree.{stop}
 use Rattle.star_grammar.proofs.Rest.{Fixed}
 use Rattle.star_grammar.proofs.Sane.{Taken, both_left, both_right}
 use Rattle.star_grammar.proofs.Alive.{walk_on, walk-on, refuse-go, walk-induction}

@@ -1,7 +1,7 @@
 -- More levels than a row needs change nothing, and neither does allowing header stops: a step asks for the limit of levels only at a `loop_` in a header, and takes it with any larger
 -- one; it asks for header stops only at a `stop_` there.
 use mathlib.Core.Path.{◌≡◌, refl, ap, ◌∙◌}
-use mathlib.Core.Bool.{Bool, true, ◌&&◌}
+use mathlib.Core.Bool.{true, ◌&&◌}
 use mathlib.Core.List.{List, ◌∷◌}
 use Prim.Native.Nat.{ℕ, suc, ◌≤◌}
 use native.Mathlib.Omega.{arith}

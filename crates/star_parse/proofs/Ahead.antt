@@ -12,7 +12,7 @@ use Rattle.star_lex.specs.Rules.{Rules}
 use Rattle.star_lex.specs.Tokens.{Token}
 use Rattle.star_lex.proofs.Cases.{cond_cases}
 use Rattle.star_grammar.specs.Tables.{Rows}
-use Rattle.star_grammar.specs.Machine.{Sort, sort_of, State, go, step, end_run, run}
+use Rattle.star_grammar.specs.Machine.{Sort, sort_of, State, step, end_run, run}
 use Rattle.star_parse.specs.Parsed.{kind_tokens}
 use Rattle.star_parse.specs.Reader.{sort_number, number_of, ahead, sort_at, SortAt, Ahead, block_kind_of, Headed}
 use Rattle.star_grammar.proofs.Sorts.{OfSort, onward, run-sort}

@@ -1,20 +1,16 @@
 -- Of a table that holds a file's tokens the rows that are taken are those tokens.
 use mathlib.Core.Path.{◌≡◌, refl, sym, ◌∙◌, ap}
-use mathlib.Core.Bool.{Bool, true, cond, ◌&&◌}
+use mathlib.Core.Bool.{Bool}
 use mathlib.Core.List.{List, [], ◌∷◌, ◌++◌}
 use Prim.Native.Nat.{ℕ, zero, suc, ◌*◌, ◌≤◌}
 use native.Mathlib.Omega.{arith}
 use borrow.Author.Tests.{le-leb}
-use lib.Dec.{leb}
-use lib.ListN.{length, get_or, take}
+use lib.ListN.{length, take}
 use lib.Seq.{take-suc, take_all}
-use Rattle.star_text.specs.Bytes.{most_bytes}
 use Rattle.star_rows.specs.Widths.{token_width}
 use Rattle.star_lex.specs.Plain.{plain_of}
-use Rattle.star_lex.specs.Tokens.{Token}
 use Rattle.star_lex.specs.Holds.{Holds, file_tokens, token_at}
 use Rattle.star_lex.proofs.Held.{held-row, held-content, count-tokens, count_small}
-use Rattle.star_plain.specs.Put.{token_of}
 use Rattle.star_plain.specs.Kept.{kept_row, token_in, first_tokens, rows_taken, plain_in}
 
 module _ (file words : List ℕ) (count : ℕ) (h : Holds file words count) where

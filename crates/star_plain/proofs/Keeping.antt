@@ -2,14 +2,13 @@
 use mathlib.Core.Path.{◌≡◌, refl, sym, ◌∙◌, ap}
 use mathlib.Core.Bool.{Bool, true, false, cond, ◌&&◌}
 use mathlib.Core.List.{List, [], ◌∷◌, ◌++◌, flat_map}
-use mathlib.Core.Option.{Option, none, some}
+use mathlib.Core.Option.{Option}
 use Prim.Native.Nat.{ℕ, zero, suc, ◌+◌, ◌-◌, ◌*◌, ◌≤◌}
 use native.Mathlib.Numerals.{add-one}
 use native.Mathlib.Omega.{arith}
 use borrow.Author.Tests.{eq-eqb, ne_eqb}
 use lib.Dec.{eqb, leb}
 use lib.ListN.{length, get_or, length-append, length-take, length-drop}
-use Rattle.star_text.specs.Bytes.{most_bytes}
 use Rattle.star_text.proofs.Cases.{cond-by}
 use Rattle.star_rows.specs.Widths.{token_width}
 use Rattle.star_lex.specs.Rules.{today}
@@ -18,7 +17,7 @@ use Rattle.star_lex.specs.Plain.{plain_token, plain_by, plain_of}
 use Rattle.star_lex.specs.Table.{part_of, content_in, or_empty}
 use Rattle.star_grammar.specs.Stopless.{is_header_stop, drop_stops, headed_after}
 use Rattle.star_grammar.proofs.Dropping.{drop-append, headed-append}
-use Rattle.star_plain.specs.Kept.{kept_row, token_in, first_tokens, plain_rows, kept_plain, headed_at, is_dropped}
+use Rattle.star_plain.specs.Kept.{token_in, first_tokens, plain_rows, kept_plain, headed_at, is_dropped}
 use Rattle.star_plain.specs.Put.{token_of, Filled}
 use Rattle.star_plain.proofs.Putting.{fill_none}
 use Rattle.star_plain.proofs.Prefix.{plain-one, plain-append}

@@ -1,20 +1,15 @@
 -- The plain form of the first tokens of a row: each token goes behind those before it, within the whole.
 use mathlib.Core.Path.{◌≡◌, sym, ◌∙◌, ap}
 use mathlib.Core.List.{List, [], ◌∷◌, ◌++◌, flat_map, append-nil}
-use Prim.Native.Nat.{ℕ, ◌+◌, ◌*◌, ◌≤◌, ◌<◌}
+use Prim.Native.Nat.{ℕ, ◌+◌, ◌≤◌, ◌<◌}
 use native.Mathlib.Numerals.{add-one}
 use native.Mathlib.Omega.{arith}
-use lib.ListN.{length, get_or, take, drop, length-append, length-take, length-drop, take-append-drop}
-use lib.Seq.{take-suc, take_all}
-use Rattle.star_text.specs.Bytes.{most_bytes}
+use lib.ListN.{length, get_or, take, drop, length-append, take-append-drop}
+use lib.Seq.{take-suc}
 use Rattle.star_rows.proofs.Stored.{flat_append}
 use Rattle.star_lex.specs.Tokens.{Token}
 use Rattle.star_lex.specs.Rules.{today}
 use Rattle.star_lex.specs.Plain.{plain_token, plain_by, plain_of}
-use Rattle.star_lex.specs.Table.{content_in, or_empty}
-use Rattle.star_lex.specs.Holds.{Holds, file_tokens, token_at}
-use Rattle.star_lex.proofs.Held.{Row, held-row, held-content, count-tokens}
-use Rattle.star_plain.specs.Put.{token_of}
 
 -- the plain form of the first tokens of a row
 abbrev pub plain_first : ℕ → List Token → List ℕ

@@ -20,7 +20,7 @@ use Rattle.star_grammar.specs.Reading.{ReadingBy}
 use Rattle.star_grammar.specs.Machine.{start}
 use Rattle.star_grammar.specs.Layout.{today_row}
 use Rattle.star_lex.specs.Holds.{Holds, file_tokens}
-use Rattle.star_read.specs.Read.{ReadOutcome, Sizes, tokens_only, grammar_of, read_by, read_in, read_old, Way, in_layout, as_old, way_rules, read_via, read_of}
+use Rattle.star_read.specs.Read.{ReadOutcome, Sizes, tokens_only, grammar_of, read_by, read_in, Way, in_layout, as_old, way_rules, read_via, read_of}
 use Rattle.star_read.specs.Demands.{Usable}
 use Rattle.star_lex.proofs.Held.{table-holds}
 use Rattle.star_read.specs.Answer.{read_answer, Tables, tables_of, Leaves}

@@ -1,17 +1,17 @@
 -- Reading without header stops against reading with them: the tokens are the same, and a run that is refused with 16 is refused before the other ends.
 use mathlib.Core.Path.{◌≡◌, refl, sym, ap, ◌∙◌}
-use mathlib.Core.Bool.{Bool, true, false, cond}
+use mathlib.Core.Bool.{Bool, true, false}
 use mathlib.Core.Logic.{◌⊎◌, inl, inr}
 use mathlib.Core.List.{List}
-use Prim.Native.Nat.{ℕ, ◌+◌, ◌≤◌, ◌<◌}
+use Prim.Native.Nat.{ℕ, ◌≤◌, ◌<◌}
 use native.Mathlib.Omega.{arith}
 use borrow.Author.Tests.{ltb-true, lt-ltb}
 use lib.Dec.{ltb}
 use lib.ListN.{length, length-map}
 use Rattle.star_text.specs.Outcome.{refused, accepted, then}
 use Rattle.star_lex.specs.Rules.{Rules, at_stops}
-use Rattle.star_lex.specs.Tokens.{Placed, Token}
-use Rattle.star_lex.specs.Split.{Split, tokens_by}
+use Rattle.star_lex.specs.Tokens.{Placed}
+use Rattle.star_lex.specs.Split.{Split}
 use Rattle.star_lex.specs.Answer.{tokens_in_by}
 use Rattle.star_lex.proofs.SameRules.{tokens-same}
 use Rattle.star_grammar.specs.Tables.{no_rows}

@@ -5,7 +5,7 @@ use Prim.Native.Nat.{ℕ, ◌+◌, ◌-◌, ◌≤◌, ◌<◌}
 use native.Mathlib.Nat.{zero-add, suc-add, sub_self, sub-zero, le_of_eq}
 use native.Mathlib.Omega.{arith}
 use borrow.Author.Fill.{fill_more}
-use lib.ListN.{length, take, drop, set, replicate, length-append, length-take, length-drop, length-replicate, length-set, drop_of_length-le, take-append-drop}
+use lib.ListN.{length, take, drop, set, replicate, length-drop, length-set, drop_of_length-le, take-append-drop}
 use lib.Seq.{length-take-le}
 use Rattle.star_rows.specs.Rows.{cleared_from}
 

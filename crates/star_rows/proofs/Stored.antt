@@ -1,7 +1,7 @@
 -- Laws of rows in a table, with the row width as parameter: a row that is put goes behind those before it, and a table that has room for
 -- its rows holds them all.
 use mathlib.Core.Path.{◌≡◌, refl, sym, ◌∙◌, ap}
-use mathlib.Core.Bool.{Bool, true, false, cond}
+use mathlib.Core.Bool.{Bool, true, false}
 use mathlib.Core.List.{List, [], ◌∷◌, ◌++◌, flat_map, append-nil, append_assoc}
 use Prim.Native.Nat.{ℕ, ◌+◌, ◌-◌, ◌*◌, ◌/◌, ◌≤◌, ◌<◌}
 use native.Mathlib.Nat.{le_trans, le_of_lt, le-div_iff_mul-le, div-lt_iff_lt-mul, div-mul-le_self, mul-le-mul_right, min-le_left, zero-mul, suc-mul}
@@ -9,7 +9,7 @@ use native.Mathlib.Omega.{arith}
 use borrow.Author.Tests.{lt-ltb, le-ltb, le-leb, lt-leb, ltb-true, ltb-false, leb-true, leb-false}
 use lib.Dec.{ltb, leb}
 use lib.ListN.{length, take, drop, replicate, length-append, length-take, length-drop}
-use lib.Seq.{sets, sets-eq, length-sets, take_all, take-nil, take-append_seam, take-append-le, drop-append-add, drop-drop}
+use lib.Seq.{sets, sets-eq, take_all, take-nil, take-append_seam, take-append-le, drop-append-add, drop-drop}
 use Rattle.star_rows.specs.Rows.{put_row, stored, cleared_from, holding}
 
 -- a row that fits is written

@@ -1,14 +1,11 @@
 -- Laws of reading a word of a row: where it stands, that of a table that holds rows, and that no product of two 32-bit numbers wraps.
 use mathlib.Core.Path.{◌≡◌, ◌∙◌, ap}
-use mathlib.Core.Bool.{true, false}
 use mathlib.Core.List.{List}
 use Prim.Native.Nat.{ℕ, zero, suc, ◌+◌, ◌-◌, ◌*◌, ◌≤◌, ◌<◌}
 use native.Mathlib.Nat.{mul-le-mul_right}
 use native.Mathlib.Omega.{arith}
-use borrow.Author.Tests.{lt-ltb, le-ltb, leb-true, leb-false}
-use lib.Dec.{ltb}
 use lib.ListN.{length, get_or, get_or-eq_default}
-use Rattle.star_rows.specs.Rows.{word_of, has_room, holding}
+use Rattle.star_rows.specs.Rows.{word_of, holding}
 use Rattle.star_rows.proofs.Held.{held_word}
 
 module _ (table : List ℕ) (width : ℕ) where

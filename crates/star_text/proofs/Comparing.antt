@@ -1,6 +1,6 @@
 -- Laws of the comparison: how it goes on from a place of both, and what it answers.
 use Rattle.std.proofs.Common.{◌≡◌, ℕ, zero, suc, ◌+◌, ◌<◌, ◌≤◌, Bool, true, false, eqb, List, [], ◌∷◌, length, get_or, take, drop, sym, refl, ◌∙◌, subst, add-one, arith, drop_of_length-le, drop-cons, eq-eqb, ne_eqb}
-use Rattle.star_text.specs.Names.{key, equal, same}
+use Rattle.star_text.specs.Names.{key, same}
 use Rattle.star_text.specs.Compare.{pairs_of, compare_of}
 use Rattle.star_text.specs.Pairs.{Comparing, Two, Four, SameFour}
 use Rattle.star_text.specs.Demands.{CompareEqual, ComparePairs, CompareStops}

@@ -5,7 +5,7 @@ use Prim.Native.Nat.{ℕ}
 use native.Mathlib.Nat.{sub-zero}
 use native.Mathlib.Omega.{arith}
 use lib.ListN.{length}
-use Rattle.star_text.specs.Outcome.{refused, accepted, then}
+use Rattle.star_text.specs.Outcome.{refused, accepted}
 use Rattle.star_text.proofs.Outcome.{need-refused, then-refused}
 use Rattle.star_lex.proofs.Cases.{impossible}
 use Rattle.star_read.specs.Read.{Sizes, read_of, read_old}

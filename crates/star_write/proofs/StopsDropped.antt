@@ -3,7 +3,6 @@
 use mathlib.Core.Path.{◌≡◌, refl, sym, ◌∙◌, ap, subst}
 use mathlib.Core.Bool.{Bool, true, false, cond}
 use mathlib.Core.List.{List, [], ◌∷◌}
-use Prim.Native.Nat.{ℕ}
 use native.Mathlib.Omega.{arith}
 use borrow.Author.Tests.{le-leb}
 use lib.Dec.{eqb}
@@ -17,10 +16,10 @@ use Rattle.star_lex.specs.Plain.{plain_of}
 use Rattle.star_lex.proofs.WellFormed.{split-well-formed}
 use Rattle.star_lex.proofs.Formed.{WellFormed}
 use Rattle.star_lex.proofs.PlainSplit.{lex-plain}
-use Rattle.star_grammar.specs.Tree.{File, frame_end, frame_close, file_yield}
+use Rattle.star_grammar.specs.Tree.{frame_end, frame_close, file_yield}
 use Rattle.star_grammar.specs.Tables.{Rows, rows_of}
 use Rattle.star_grammar.specs.Reading.{ReadingBy, Reading}
-use Rattle.star_read.specs.Read.{Sizes, tokens_only, read_of, read_old}
+use Rattle.star_read.specs.Read.{Sizes, tokens_only, read_old}
 use Rattle.star_read.specs.Demands.{Room, Tokenized}
 use Rattle.star_read.proofs.Usable.{old-usable}
 use Rattle.star_read.proofs.InLayout.{old-split}

@@ -2,10 +2,8 @@
 use mathlib.Core.Path.{refl, sym, ◌∙◌, ap}
 use Prim.Native.Nat.{◌≤◌, ◌<◌}
 use native.Mathlib.Omega.{arith}
-use borrow.Author.Rules.{rules}
 use lib.ListN.{length, replicate, length-replicate}
 use Rattle.star_rows.proofs.Clear.{cleared-whole}
-use Rattle.star_read.specs.Read.{Sizes}
 use Rattle.star_read.specs.Answer.{read_answer, tables, sizes, words}
 use Rattle.star_slots.specs.Inner.{table_home}
 use Rattle.star_index.proofs.Kept.{leaves_at}
@@ -21,7 +19,7 @@ returns-then-reading-ne0 c =
     record {
       gives = record { answer = c.read-reading.ensures.answer ∙ sym (ap read_answer o); leaves = leaves_at o refl c.read-reading.ensures.leaves };
       leaves = c.clear_from.ensures ∙ cleared-whole _ ∙ build-unread-slots _ ((let a = c.args in
-    sizes (tables a.tokens.now a.sets.now a.names.now a.packets.now a.values.now))) c.read-reading.result c.read-reading.ensures.answer c.if-reading-ne0.true slots;
+          sizes (tables a.tokens.now a.sets.now a.names.now a.packets.now a.values.now))) c.read-reading.result c.read-reading.ensures.answer c.if-reading-ne0.true slots;
     }
 
 pub returns-then-slots-reading : goal.returns-then-slots-reading
@@ -40,7 +38,7 @@ returns-then-slots-reading c =
         leaves = leaves_at o (λ j. words (kept.tokens j) (kept.sets j) (kept.names j) (kept.packets j) (kept.values j)) refusing.ensures.leaves;
       };
       leaves = c.clear_from.ensures ∙ cleared-whole _ ∙ build-few-slots _ ((let a = c.args in
-    sizes (tables a.tokens.now a.sets.now a.names.now a.packets.now a.values.now))) c.read-reading.result c.read-reading.ensures.answer _ l z slots few;
+          sizes (tables a.tokens.now a.sets.now a.names.now a.packets.now a.values.now))) c.read-reading.result c.read-reading.ensures.answer _ l z slots few;
     }
 
 pub returns : goal.returns
@@ -60,5 +58,5 @@ returns c =
           ∙ ap (λ s. filled (home (length s)) s c.read-reading.result.names) zero
           ∙ ap (λ n. filled (home n) (replicate slots 0) c.read-reading.result.names) (length-replicate slots 0)
           ∙ build-slots _ ((let a = c.args in
-    sizes (tables a.tokens.now a.sets.now a.names.now a.packets.now a.values.now))) c.read-reading.result c.read-reading.ensures.answer _ l z slots more;
+          sizes (tables a.tokens.now a.sets.now a.names.now a.packets.now a.values.now))) c.read-reading.result c.read-reading.ensures.answer _ l z slots more;
     }

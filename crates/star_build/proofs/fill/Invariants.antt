@@ -1,11 +1,8 @@
-use mathlib.Core.Path.{◌≡◌, refl, sym, ◌∙◌, ap}
-use Prim.Native.Nat.{◌+◌, ◌-◌, ◌≤◌, ◌<◌}
-use native.Mathlib.Omega.{arith}
-use lib.ListN.{length, set, length-set}
+use mathlib.Core.Path.{◌≡◌}
+use Prim.Native.Nat.{◌-◌, ◌≤◌}
+use lib.ListN.{length}
 use Rattle.star_slots.specs.Inner.{table_home}
-use Rattle.star_slots.proofs.Slots.{table-home}
-use Rattle.star_build.specs.Build.{first_free, entered, filled}
-use Rattle.star_build.proofs.Filling.{filled_next}
+use Rattle.star_build.specs.Build.{filled}
 use Rattle.star_build.proofs.fill.Given as goal
 
 abbrev pub invariant-loop-row : goal.invariant-loop-row

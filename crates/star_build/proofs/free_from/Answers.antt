@@ -1,10 +1,7 @@
 -- `free_from` meets its contract: the first 0 of the slots that are left is the first from the home.
-use mathlib.Core.Path.{◌≡◌, refl, sym, ◌∙◌}
-use Prim.Native.Nat.{◌<◌}
+use mathlib.Core.Path.{refl, sym, ◌∙◌}
 use native.Mathlib.Omega.{arith}
-use lib.ListN.{length}
 use Rattle.star_slots.proofs.Slots.{next-inside}
-use Rattle.star_build.specs.Build.{first_free}
 use Rattle.star_build.proofs.Free.{free-at, free_on, free-none}
 use Rattle.star_build.proofs.free_from.Goals as goal
 

@@ -1,10 +1,7 @@
-use mathlib.Core.Path.{◌≡◌, refl, sym, ◌∙◌}
+use mathlib.Core.Path.{◌≡◌}
 use Prim.Native.Nat.{◌<◌}
-use native.Mathlib.Omega.{arith}
 use lib.ListN.{length}
-use Rattle.star_slots.proofs.Slots.{next-inside}
 use Rattle.star_build.specs.Build.{first_free}
-use Rattle.star_build.proofs.Free.{free-at, free_on, free-none}
 use Rattle.star_build.proofs.free_from.Given as goal
 
 abbrev pub invariant-loop-unseen : goal.invariant-loop-unseen

@@ -1,13 +1,9 @@
-use mathlib.Core.Path.{◌≡◌, refl, sym, ◌∙◌, ap}
-use mathlib.Core.Bool.{◌&&◌}
-use Prim.Native.Nat.{◌+◌, ◌-◌, ◌≤◌}
-use native.Mathlib.Omega.{arith}
-use borrow.Author.Tests.{not-true, not-false}
+use mathlib.Core.Path.{◌≡◌}
+use Prim.Native.Nat.{◌-◌, ◌≤◌}
 use lib.ListN.{drop}
 use Rattle.star_lex.specs.Rules.{old_bench}
 use Rattle.star_lex.specs.Fits.{all_fit}
 use Rattle.star_lex.specs.Holds.{file_tokens}
-use Rattle.star_check.proofs.Fitting.{fit_next, fit-end}
 use Rattle.star_check.proofs.all_fit.Given as goal
 
 abbrev pub invariant-loop-n : goal.invariant-loop-n

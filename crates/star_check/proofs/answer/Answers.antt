@@ -1,7 +1,6 @@
 -- `answer` meets its contract: the tests stand in the order of the definition.
 use mathlib.Core.Path.{sym, ◌∙◌}
 use mathlib.Core.Bool.{true, false}
-use borrow.Author.Rules.{rules}
 use Rattle.star_check.proofs.Fitting.{refuses-reading, reads-checked}
 use Rattle.star_check.proofs.answer.Goals as goal
 

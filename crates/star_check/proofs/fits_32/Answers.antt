@@ -1,6 +1,4 @@
 -- `fits_32` meets its contract: the answer is the outcome's, by reading's, and the tables are as reading left them.
-use borrow.Author.Rules.{rules}
-use Rattle.star_read.specs.Read.{Sizes}
 use Rattle.star_read.specs.Answer.{tables, sizes}
 use Rattle.star_read.proofs.Accepted.{read-holds}
 use Rattle.star_check.proofs.Fitting.{leaves-checked}

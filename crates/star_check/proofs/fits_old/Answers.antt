@@ -1,5 +1,4 @@
 -- `fits_old` meets its contract, by the kind.
-use borrow.Author.Rules.{rules}
 use borrow.Author.Tests.{ne_eqb}
 use Rattle.star_lex.specs.Fits.{is_limited, fits}
 use Rattle.star_check.proofs.fits_old.Goals as goal

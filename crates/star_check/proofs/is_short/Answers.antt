@@ -1,6 +1,5 @@
 -- `is_short` meets its contract: the length of the content, against the limit.
 use mathlib.Core.Path.{ap}
-use borrow.Author.Rules.{rules}
 use lib.Dec.{leb}
 use lib.ListN.{length}
 use Rattle.star_lex.specs.Rules.{old_bench}

@@ -1,8 +1,6 @@
 -- `convert` meets its contract: a refusal is that of writing in the file's own layout, and else the words that close frames are exchanged in the plain form.
 use mathlib.Core.Path.{◌∙◌}
-use borrow.Author.Rules.{rules}
 use lib.ListN.{length}
-use Rattle.star_read.specs.Read.{Sizes}
 use Rattle.star_read.specs.Answer.{tables, sizes}
 use Rattle.star_write.proofs.Outcomes.{Success, success}
 use Rattle.star_convert.proofs.Converting.{file-reading}

@@ -1,12 +1,10 @@
 -- `compare` meets its contract: a part that is inside is compared.
 use mathlib.Core.Path.{sym, ◌∙◌, ap}
 use mathlib.Core.Option.{some}
-use borrow.Author.Tests.{not-true, not-false}
 use Rattle.star_text.specs.Compare.{compare_of}
 use Rattle.star_lex.proofs.Table.{some_of}
 use Rattle.star_find.specs.Find.{match_of}
 use Rattle.star_find.proofs.Looking.{is_none}
-use borrow.Author.Rules.{rules}
 use Rattle.star_find.proofs.compare.Goals as goal
 
 pub returns-then-not-has_part : goal.returns-then-not-has_part

@@ -1,6 +1,5 @@
 -- `compare_row` meets its contract: only a row that is looked at is compared.
 use mathlib.Core.Path.{sym, ◌∙◌}
-use borrow.Author.Rules.{rules}
 use Rattle.star_find.proofs.compare_row.Goals as goal
 
 pub returns-then-is_wanted : goal.returns-then-is_wanted

@@ -1,8 +1,6 @@
 -- `counts_fit` meets its contract: each count is tested against its table in turn.
 use mathlib.Core.Path.{sym, ◌∙◌}
-use borrow.Author.Tests.{not-true, not-false}
 use Rattle.star_find.specs.Find.{fits}
-use borrow.Author.Rules.{rules}
 use Rattle.star_find.proofs.counts_fit.Goals as goal
 
 pub returns-then-not-fits : goal.returns-then-not-fits

@@ -1,7 +1,6 @@
 -- `find_block` meets its contract: the counts are checked, then the rows of the blocks are looked at.
 use mathlib.Core.Path.{sym, ◌∙◌}
 use Rattle.star_find.specs.Find.{find_block, look, counts_fit, refused}
-use borrow.Author.Rules.{rules}
 use Rattle.star_find.proofs.find_block.Goals as goal
 
 pub returns-then-counts_fit : goal.returns-then-counts_fit

@@ -1,7 +1,6 @@
 -- `find_frame` meets its contract: the counts and the set are checked, then the rows of its frames are looked at.
 use mathlib.Core.Path.{sym, ◌∙◌}
 use Rattle.star_find.specs.Find.{find_frame, look, refused}
-use borrow.Author.Rules.{rules}
 use Rattle.star_find.proofs.find_frame.Goals as goal
 
 pub returns-then-row_there : goal.returns-then-row_there

@@ -1,12 +1,8 @@
 -- `find_global` meets its contract: after each name row the nearest global block that does not answer 13 is kept.
 use mathlib.Core.Path.{◌≡◌}
-use Prim.Native.Nat.{◌-◌, ◌≤◌}
 use native.Mathlib.Omega.{arith}
-use borrow.Author.Rules.{rules}
-use borrow.Author.Tests.{not-true, not-false}
-use Rattle.star_rows.specs.Rows.{word_of}
-use Rattle.star_find.specs.Find.{content_at, refused}
-use Rattle.star_find.proofs.Nearest.{Nearest, nearest-first, turn-other, turn-none, turn-answer, nearest-asked}
+use Rattle.star_find.specs.Find.{refused}
+use Rattle.star_find.proofs.Nearest.{nearest-first, turn-other, turn-none, turn-answer, nearest-asked}
 use Rattle.star_find.proofs.find_global.Goals as goal
 
 pub loop-i-init : goal.loop-i-init
@@ -35,12 +31,11 @@ pub loop-i-smaller : goal.loop-i-smaller
 loop-i-smaller c = omega arith
 
 pub loop-i-preserved : goal.loop-i-preserved
-loop-i-preserved c =
-    (
-      omega arith,
-      turn-answer _ _ _ _ c.args.set c.loop-i.invariant.1 c.word-s.ensures c.is_nearer.ensures
-          c.if-not-is_nearer.false c.row_answer-answer.ensures (λ q. omega (arith, c.if-answer-eq13.false, q)),
-    )
+loop-i-preserved c = (
+  omega arith,
+  turn-answer _ _ _ _ c.args.set c.loop-i.invariant.1 c.word-s.ensures c.is_nearer.ensures
+      c.if-not-is_nearer.false c.row_answer-answer.ensures (λ q. omega (arith, c.if-answer-eq13.false, q)),
+)
 
 pub returns : goal.returns
 returns c = nearest-asked _ _ _ _ c.args.rows c.loop-i.invariant.1 (omega arith)

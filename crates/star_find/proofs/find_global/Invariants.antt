@@ -1,11 +1,7 @@
-use mathlib.Core.Path.{◌≡◌}
 use Prim.Native.Nat.{◌-◌, ◌≤◌}
-use native.Mathlib.Omega.{arith}
-use borrow.Author.Rules.{rules}
-use borrow.Author.Tests.{not-true, not-false}
 use Rattle.star_rows.specs.Rows.{word_of}
-use Rattle.star_find.specs.Find.{content_at, refused}
-use Rattle.star_find.proofs.Nearest.{Nearest, nearest-first, turn-other, turn-none, turn-answer, nearest-asked}
+use Rattle.star_find.specs.Find.{content_at}
+use Rattle.star_find.proofs.Nearest.{Nearest}
 use Rattle.star_find.proofs.find_global.Given as goal
 
 abbrev pub invariant-loop-i : goal.invariant-loop-i

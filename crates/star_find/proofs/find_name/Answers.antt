@@ -1,7 +1,6 @@
 -- `find_name` meets its contract: the counts and the set are checked, then the set is asked and, where it goes on, the global blocks before it.
 use mathlib.Core.Path.{sym, ◌∙◌}
 use Rattle.star_find.specs.Find.{find_name, own_name, look, refused}
-use borrow.Author.Rules.{rules}
 use Rattle.star_find.proofs.find_name.Goals as goal
 
 pub returns-then-row_there : goal.returns-then-row_there

@@ -3,7 +3,6 @@ use mathlib.Core.Path.{sym, ◌∙◌}
 use Rattle.star_find.specs.Find.{content_at}
 use Rattle.star_lex.specs.Answer.{is_some}
 use Rattle.star_find.proofs.Looking.{row-bounds}
-use borrow.Author.Rules.{rules}
 use Rattle.star_find.proofs.has_part.Goals as goal
 
 pub overflow_sub-row : goal.overflow_sub-row

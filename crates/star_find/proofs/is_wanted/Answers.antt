@@ -2,7 +2,6 @@
 use mathlib.Core.Path.{sym}
 use borrow.Author.Tests.{eq-eqb, ne_eqb}
 use Rattle.star_find.specs.Find.{is_wanted}
-use borrow.Author.Rules.{rules}
 use Rattle.star_find.proofs.is_wanted.Goals as goal
 
 pub returns-then-word-w : goal.returns-then-word-w

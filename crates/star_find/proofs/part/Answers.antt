@@ -1,12 +1,10 @@
 -- `part` meets its contract: a token row has the content of its row of table 1.
 use mathlib.Core.Path.{sym, ◌∙◌}
-use borrow.Author.Tests.{not-true, not-false}
 use Rattle.star_lex.specs.Answer.{is_some}
 use Rattle.star_lex.specs.Table.{or_empty, start_in}
 use Rattle.star_rows.proofs.Words.{word_row}
 use Rattle.star_find.specs.Find.{content_at}
 use Rattle.star_find.proofs.Looking.{row-bounds}
-use borrow.Author.Rules.{rules}
 use Rattle.star_find.proofs.part.Goals as goal
 
 pub returns-then-not-is_row : goal.returns-then-not-is_row

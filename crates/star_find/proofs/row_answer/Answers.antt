@@ -1,6 +1,5 @@
 -- `row_answer` meets its contract: how the row compares decides.
 use mathlib.Core.Path.{sym}
-use borrow.Author.Rules.{rules}
 use Rattle.star_find.specs.Find.{found, refused}
 use Rattle.star_find.proofs.Looking.{meet-decides}
 use Rattle.star_find.proofs.row_answer.Goals as goal

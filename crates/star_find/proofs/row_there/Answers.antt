@@ -1,7 +1,6 @@
 -- `row_there` meets its contract: the counts are tested, then the row number.
 use mathlib.Core.Path.{sym, ◌∙◌}
 use Rattle.star_find.specs.Find.{row_there, counts_fit}
-use borrow.Author.Rules.{rules}
 use Rattle.star_find.proofs.row_there.Goals as goal
 
 pub returns-then-counts_fit : goal.returns-then-counts_fit

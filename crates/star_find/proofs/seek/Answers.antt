@@ -1,19 +1,8 @@
 -- `seek` meets its contract: the answer from a row on is the answer from the first row on.
-use mathlib.Core.Path.{◌≡◌, sym, ◌∙◌, ap}
-use mathlib.Core.Bool.{Bool, cond}
-use mathlib.Core.List.{List}
-use mathlib.Core.Option.{Option}
-use Prim.Native.Nat.{ℕ, ◌+◌, ◌-◌, ◌≤◌, ◌<◌}
-use native.Mathlib.Nat.{sub-zero}
+use mathlib.Core.Path.{sym, ◌∙◌}
 use native.Mathlib.Omega.{arith}
-use borrow.Author.Rules.{rules}
-use Rattle.star_rows.specs.Rows.{word_of}
-use Rattle.star_find.specs.Find.{seek, is_wanted, content_at, match_of, found, refused}
-use Rattle.star_find.specs.declared.Wanted.{Wanted}
-use Rattle.star_find.specs.declared.Found.{Found}
-use Rattle.star_find.specs.declared.Match.{Match}
-use Rattle.star_find.specs.declared.Match.TheVariants.{Other}
-use Rattle.star_find.proofs.Looking.{decided, seek-at, seek-over}
+use Rattle.star_find.specs.Find.{found, refused}
+use Rattle.star_find.proofs.Looking.{seek-over}
 use Rattle.star_find.proofs.seek.Invariants.{from_first, from_at}
 use Rattle.star_find.proofs.seek.Goals as goal
 

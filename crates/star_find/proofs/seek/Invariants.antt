@@ -1,18 +1,16 @@
-use mathlib.Core.Path.{◌≡◌, sym, ◌∙◌, ap}
+use mathlib.Core.Path.{◌≡◌, ◌∙◌, ap}
 use mathlib.Core.Bool.{Bool, cond}
 use mathlib.Core.List.{List}
 use mathlib.Core.Option.{Option}
 use Prim.Native.Nat.{ℕ, ◌+◌, ◌-◌, ◌≤◌, ◌<◌}
 use native.Mathlib.Nat.{sub-zero}
-use native.Mathlib.Omega.{arith}
-use borrow.Author.Rules.{rules}
 use Rattle.star_rows.specs.Rows.{word_of}
-use Rattle.star_find.specs.Find.{seek, is_wanted, content_at, match_of, found, refused}
+use Rattle.star_find.specs.Find.{seek, is_wanted, content_at, match_of}
 use Rattle.star_find.specs.declared.Wanted.{Wanted}
 use Rattle.star_find.specs.declared.Found.{Found}
 use Rattle.star_find.specs.declared.Match.{Match}
 use Rattle.star_find.specs.declared.Match.TheVariants.{Other}
-use Rattle.star_find.proofs.Looking.{decided, seek-at, seek-over}
+use Rattle.star_find.proofs.Looking.{decided, seek-at}
 use Rattle.star_find.proofs.seek.Given as goal
 
 module _ (file tokens : List ℕ) (count : ℕ) (table : List ℕ) (rows : ℕ) (w : Wanted) (bytes : List ℕ) where

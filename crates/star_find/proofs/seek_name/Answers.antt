@@ -1,7 +1,6 @@
 -- `seek_name` meets its contract: the set is asked first, and after 13 a data block goes on to the global blocks.
 use mathlib.Core.Path.{◌≡◌}
 use native.Mathlib.Omega.{arith}
-use borrow.Author.Rules.{rules}
 use Rattle.star_find.specs.Find.{refused}
 use Rattle.star_find.proofs.Asking.{on-own, on-other, on-block}
 use Rattle.star_find.proofs.seek_name.Goals as goal

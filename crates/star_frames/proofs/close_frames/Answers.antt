@@ -1,12 +1,12 @@
 -- `close_frames` meets its contract: the rows before the present one have the kinds of today's layout.
 use mathlib.Core.Path.{◌≡◌, sym, ◌∙◌}
 use mathlib.Core.Bool.{true}
-use Prim.Native.Nat.{◌*◌, ◌-◌, ◌≤◌, ◌<◌}
+use Prim.Native.Nat.{◌*◌, ◌<◌}
 use native.Mathlib.Omega.{arith}
 use lib.ListN.{length}
 use Rattle.star_text.specs.Bytes.{most_bytes}
 use Rattle.star_frames.specs.Frames.{has_rows}
-use Rattle.star_frames.proofs.Closing.{Closing, rows_in, closing-start, closing-size, closing-ready, closing-turn, closing_end, closed_none}
+use Rattle.star_frames.proofs.Closing.{rows_in, closing-start, closing-size, closing-ready, closing-turn, closing_end, closed_none}
 use Rattle.star_frames.proofs.close_frames.Goals.{At-loop-n, In-loop-n}
 use Rattle.star_frames.proofs.close_frames.Goals as goal
 

@@ -1,7 +1,6 @@
 -- `from_today` meets its contract: layout 1 is that of 1991.
 use mathlib.Core.Path.{◌≡◌, sym, ◌∙◌}
 use native.Mathlib.Omega.{arith}
-use borrow.Author.Rules.{rules}
 use Rattle.star_frames.proofs.Layouts.{from_old, from-same}
 use Rattle.star_frames.proofs.from_today.Goals as goal
 

@@ -1,12 +1,12 @@
 -- `open_frames` meets its contract: in the rows before the present one what closed a frame is `stop_`.
 use mathlib.Core.Path.{◌≡◌, sym, ◌∙◌}
 use mathlib.Core.Bool.{true}
-use Prim.Native.Nat.{◌*◌, ◌-◌, ◌≤◌, ◌<◌}
+use Prim.Native.Nat.{◌*◌, ◌<◌}
 use native.Mathlib.Omega.{arith}
 use lib.ListN.{length}
 use Rattle.star_text.specs.Bytes.{most_bytes}
 use Rattle.star_frames.specs.Frames.{has_rows}
-use Rattle.star_frames.proofs.Closing.{Opening, rows_in, opening-start, opening-size, opening-turn, opening-end, opened-none}
+use Rattle.star_frames.proofs.Closing.{rows_in, opening-start, opening-size, opening-turn, opening-end, opened-none}
 use Rattle.star_frames.proofs.open_frames.Goals.{At-loop-n, In-loop-n}
 use Rattle.star_frames.proofs.open_frames.Goals as goal
 

@@ -1,7 +1,6 @@
 -- `pass_loop` meets its contract: a level more is one of the array's.
 use mathlib.Core.Path.{refl, ap, ◌∙◌}
 use native.Mathlib.Omega.{arith}
-use borrow.Author.Rules.{rules}
 use borrow.Author.Tests.{eq-eqb, ne_eqb, lt-ltb, le-ltb}
 use lib.ListN.{length-set}
 use Rattle.star_grammar.specs.Layout.{track, pass_loop}

@@ -1,6 +1,5 @@
 -- `pass_stop` meets its contract, by the tests on the part, the values and the level.
 use mathlib.Core.Path.{◌≡◌, refl}
-use borrow.Author.Rules.{rules}
 use borrow.Author.Tests.{eq-eqb, ne_eqb}
 use Rattle.star_grammar.specs.Layout.{pass_stop}
 use Rattle.star_frames.specs.Tracked.{track_of}

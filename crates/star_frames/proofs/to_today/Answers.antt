@@ -1,7 +1,6 @@
 -- `to_today` meets its contract: layout 1 is that of 1991.
 use mathlib.Core.Path.{◌≡◌, sym, ◌∙◌}
 use native.Mathlib.Omega.{arith}
-use borrow.Author.Rules.{rules}
 use Rattle.star_frames.proofs.Layouts.{as_old, as_same}
 use Rattle.star_frames.proofs.to_today.Goals as goal
 

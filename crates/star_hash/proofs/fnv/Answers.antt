@@ -1,9 +1,6 @@
 -- `fnv` meets its contract: mixing the bytes that are left into what was mixed gives the whole.
-use mathlib.Core.Path.{◌≡◌, refl, sym, ◌∙◌}
-use Prim.Native.Nat.{◌-◌, ◌≤◌}
+use mathlib.Core.Path.{refl, sym, ◌∙◌}
 use native.Mathlib.Omega.{arith}
-use lib.ListN.{length, drop}
-use Rattle.star_hash.specs.Hash.{fnv}
 use Rattle.star_hash.proofs.Hashing.{fnv-next, fnv-end}
 use Rattle.star_hash.proofs.fnv.Goals as goal
 

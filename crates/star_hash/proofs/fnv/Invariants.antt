@@ -1,9 +1,7 @@
-use mathlib.Core.Path.{◌≡◌, refl, sym, ◌∙◌}
+use mathlib.Core.Path.{◌≡◌}
 use Prim.Native.Nat.{◌-◌, ◌≤◌}
-use native.Mathlib.Omega.{arith}
 use lib.ListN.{length, drop}
 use Rattle.star_hash.specs.Hash.{fnv}
-use Rattle.star_hash.proofs.Hashing.{fnv-next, fnv-end}
 use Rattle.star_hash.proofs.fnv.Given as goal
 
 abbrev pub invariant-loop-i : goal.invariant-loop-i

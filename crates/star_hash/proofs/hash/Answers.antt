@@ -1,7 +1,6 @@
 -- `hash` meets its contract: the set's bytes are mixed in from the lowest on, then the name.
 use mathlib.Core.Path.{◌∙◌, ap}
 use Prim.Native.Nat.{◌/◌, ◌%◌}
-use borrow.Author.Rules.{rules}
 use Rattle.star_text.specs.Names.{key}
 use Rattle.star_hash.specs.Hash.{mixed, fnv, set_bytes, hash_of}
 use Rattle.star_hash.proofs.hash.Goals as goal

@@ -2,7 +2,6 @@
 use mathlib.Core.Path.{sym, ◌∙◌, ap}
 use Prim.Native.Nat.{◌%◌}
 use native.Mathlib.Nat.{mod-zero}
-use borrow.Author.Rules.{rules}
 use Rattle.star_hash.specs.Hash.{home_of}
 use Rattle.star_hash.proofs.home_of.Goals as goal
 

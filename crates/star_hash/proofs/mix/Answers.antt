@@ -1,5 +1,4 @@
 -- `mix` meets its contract, as the definition computes.
-use borrow.Author.Rules.{rules}
 use Rattle.star_hash.specs.Hash.{mixed}
 use Rattle.star_hash.proofs.mix.Goals as goal
 

@@ -1,6 +1,5 @@
 -- `times_prime` meets its contract: the product of two 32-bit numbers has 64 bits, and its remainder is taken in whole numbers.
 use mathlib.Core.Path.{refl}
-use borrow.Author.Rules.{rules}
 use Rattle.star_hash.specs.Hash.{product}
 use Rattle.star_hash.proofs.times_prime.Goals as goal
 

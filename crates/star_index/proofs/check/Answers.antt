@@ -1,7 +1,5 @@
 -- `check` meets its contract: a refusal of reading is the check's; then the slots are tested, and a refusal clears the tables.
 use mathlib.Core.Path.{refl, sym, ◌∙◌, ap}
-use borrow.Author.Rules.{rules}
-use Rattle.star_read.specs.Read.{Sizes}
 use Rattle.star_read.specs.Answer.{read_answer, tables, sizes, words}
 use Rattle.star_index.proofs.Kept.{left-unmarked, check-yes, check-no, check-unread, leaves_at}
 use Rattle.star_index.proofs.check.Goals as goal

@@ -2,7 +2,6 @@
 use mathlib.Core.Path.{◌∙◌, sym}
 use Prim.Native.Nat.{ℕ, ◌≤◌, ◌<◌}
 use native.Mathlib.Omega.{arith}
-use borrow.Author.Rules.{rules}
 use borrow.Author.Tests.{not-true, not-false}
 use lib.ListN.{length}
 use Rattle.star_text.proofs.Cases.{impossible}
@@ -33,5 +32,8 @@ once_each-requires c =
 pub returns : goal.returns
 returns c =
     let once = c.once_each in
-    let more : c.args.rows < length c.args.slots.now = omega (arith, c.if-slots-rows.false) in record { value = index-once _ _ _ (homes (goal.at.returns c).Start (omega arith)) more (sym c.slots_fit.ensures ∙ not-false c.slots_fit.result c.if-not-slots_fit.false-raw) once.result
-          (λ e. (once.ensures.by_index_2 e).0) once.ensures.fact; names_unchanged = λ e. (once.ensures.by_index_2 e).1 }
+    let more : c.args.rows < length c.args.slots.now = omega (arith, c.if-slots-rows.false) in record {
+      value = index-once _ _ _ (homes (goal.at.returns c).Start (omega arith)) more (sym c.slots_fit.ensures ∙ not-false c.slots_fit.result c.if-not-slots_fit.false-raw) once.result
+          (λ e. (once.ensures.by_index_2 e).0) once.ensures.fact;
+      names_unchanged = λ e. (once.ensures.by_index_2 e).1;
+    }

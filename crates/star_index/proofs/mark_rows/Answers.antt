@@ -5,7 +5,7 @@ use native.Mathlib.Omega.{arith}
 use borrow.Author.Tests.{not-true, not-false, ltb-true, ltb-false}
 use lib.ListN.{length, get_or}
 use Rattle.star_text.proofs.Cases.{impossible}
-use Rattle.star_index.specs.Inner.{mark, place_of, Marked, Apart}
+use Rattle.star_index.specs.Inner.{mark, place_of, Marked}
 use Rattle.star_index.proofs.Marking.{marked-none, apart_none, marked-zero, apart-zero, fresh, taken, marked_row, apart-row}
 use Rattle.star_index.proofs.mark_rows.Goals as goal
 
@@ -38,9 +38,12 @@ pub returns-then-not-mark : goal.returns-then-not-mark
 returns-then-not-mark c =
     let at = c.loop-at in
     let marked = c.mark in
-    let low : 1 ≤ get_or c.args.slots.now at.at 0 = omega (arith, c.if-row-eq0.false) in record { apart = λ e. impossible cc; fact = λ e p.
+    let low : 1 ≤ get_or c.args.slots.now at.at 0 = omega (arith, c.if-row-eq0.false) in record {
+      apart = λ e. impossible cc;
+      fact = λ e p.
           taken c.args.slots.now at.at c.args.rows c.args.names.now at.names at.invariant.2 c.requires.unmarked low (c.requires.by_index at.at (omega arith))
-          (ltb-false _ _ (sym marked.ensures.value ∙ not-true marked.result c.if-not-mark.true-raw)) (λ s. p s.0 at.at s.1 (omega arith) low s.2) }
+          (ltb-false _ _ (sym marked.ensures.value ∙ not-true marked.result c.if-not-mark.true-raw)) (λ s. p s.0 at.at s.1 (omega arith) low s.2);
+    }
 
 pub overflow_add-at-in-loop-at : goal.overflow_add-at-in-loop-at
 overflow_add-at-in-loop-at c = omega arith

@@ -1,11 +1,6 @@
-use mathlib.Core.Path.{◌≡◌, sym, ◌∙◌, subst}
-use Prim.Native.Nat.{◌+◌, ◌-◌, ◌≤◌, ◌<◌}
-use native.Mathlib.Omega.{arith}
-use borrow.Author.Tests.{not-true, not-false, ltb-true, ltb-false}
-use lib.ListN.{length, get_or}
-use Rattle.star_text.proofs.Cases.{impossible}
-use Rattle.star_index.specs.Inner.{mark, place_of, Marked, Apart}
-use Rattle.star_index.proofs.Marking.{marked-none, apart_none, marked-zero, apart-zero, fresh, taken, marked_row, apart-row}
+use Prim.Native.Nat.{◌-◌, ◌≤◌}
+use lib.ListN.{length}
+use Rattle.star_index.specs.Inner.{Marked, Apart}
 use Rattle.star_index.proofs.mark_rows.Given as goal
 
 abbrev pub invariant-loop-at : goal.invariant-loop-at

@@ -1,6 +1,5 @@
 -- `once_each` meets its contract: rows are marked, and each has had its mark.
 use native.Mathlib.Omega.{arith}
-use borrow.Author.Rules.{rules}
 use borrow.Author.Tests.{not-true, not-false}
 use Rattle.star_text.proofs.Cases.{impossible}
 use Rattle.star_index.proofs.Marking.{once-all, once-missing, once-apart}

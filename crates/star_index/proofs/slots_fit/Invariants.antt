@@ -1,14 +1,9 @@
-use mathlib.Core.Path.{◌≡◌, refl, sym, ◌∙◌, ap}
-use mathlib.Core.Bool.{true, cond}
-use Prim.Native.Nat.{suc, ◌-◌, ◌≤◌}
-use native.Mathlib.Omega.{arith}
-use borrow.Author.Tests.{not-true, not-false}
-use lib.Dec.{eqb}
-use lib.ListN.{length, get_or}
+use mathlib.Core.Path.{◌≡◌}
+use mathlib.Core.Bool.{true}
+use Prim.Native.Nat.{◌-◌, ◌≤◌}
+use lib.ListN.{length}
 use Rattle.star_slots.specs.Inner.{table_home}
-use Rattle.star_index.specs.Index.{all_below}
-use Rattle.star_index.specs.Inner.{run_start, slot_fits, slots_fit}
-use Rattle.star_index.proofs.Scanning.{run-next, fit-more, fit-less}
+use Rattle.star_index.specs.Inner.{run_start, slots_fit}
 use Rattle.star_index.proofs.slots_fit.Given as goal
 
 abbrev pub invariant-loop-at : goal.invariant-loop-at

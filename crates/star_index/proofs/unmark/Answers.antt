@@ -1,10 +1,9 @@
 -- `unmark` meets its contract: the rows passed have their words without the mark.
 use mathlib.Core.Path.{◌≡◌}
-use Prim.Native.Nat.{◌+◌, ◌-◌, ◌*◌, ◌≤◌, ◌<◌}
+use Prim.Native.Nat.{◌+◌, ◌*◌, ◌<◌}
 use native.Mathlib.Omega.{arith}
 use lib.ListN.{length}
 use Rattle.star_text.proofs.Cases.{impossible}
-use Rattle.star_index.specs.Inner.{Cleaned}
 use Rattle.star_index.proofs.Marking.{cleaned-none, cleaned-next, cleaned-missing}
 use Rattle.star_index.proofs.unmark.Goals as goal
 

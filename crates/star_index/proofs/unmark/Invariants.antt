@@ -1,10 +1,5 @@
-use mathlib.Core.Path.{◌≡◌}
-use Prim.Native.Nat.{◌+◌, ◌-◌, ◌*◌, ◌≤◌, ◌<◌}
-use native.Mathlib.Omega.{arith}
-use lib.ListN.{length}
-use Rattle.star_text.proofs.Cases.{impossible}
+use Prim.Native.Nat.{◌-◌, ◌≤◌}
 use Rattle.star_index.specs.Inner.{Cleaned}
-use Rattle.star_index.proofs.Marking.{cleaned-none, cleaned-next, cleaned-missing}
 use Rattle.star_index.proofs.unmark.Given as goal
 
 abbrev pub invariant-loop-i : goal.invariant-loop-i

@@ -3,12 +3,11 @@ use mathlib.Core.Path.{◌≡◌, sym, ◌∙◌, ap}
 use mathlib.Core.Bool.{true}
 use Prim.Native.Nat.{◌+◌, ◌*◌}
 use native.Mathlib.Omega.{arith}
-use borrow.Author.Tests.{not-true, not-false}
+use borrow.Author.Tests.{not-false}
 use Rattle.star_rows.specs.Widths.{token_width}
 use Rattle.star_lex.specs.Answer.{is_some}
 use Rattle.star_lex.specs.Table.{content_in, or_empty}
 use Rattle.star_lex.proofs.Table.{Spans, content-inside, content-whole, start-some, start_none, empty-none}
-use borrow.Author.Rules.{rules}
 use Rattle.star_lex.proofs.content.Goals.{Else-not-has_content}
 use Rattle.star_lex.proofs.content.Goals as goal
 

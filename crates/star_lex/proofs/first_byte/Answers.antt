@@ -4,7 +4,6 @@ use Prim.Native.Nat.{◌+◌, ◌*◌}
 use native.Mathlib.Omega.{arith}
 use Rattle.star_rows.specs.Widths.{token_width}
 use Rattle.star_lex.proofs.Table.{first-row, first-none}
-use borrow.Author.Rules.{rules}
 use Rattle.star_lex.proofs.first_byte.Goals as goal
 
 pub returns-then-n-tokens : goal.returns-then-n-tokens

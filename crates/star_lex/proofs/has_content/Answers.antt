@@ -5,7 +5,6 @@ use native.Mathlib.Omega.{arith}
 use Rattle.star_rows.specs.Widths.{token_width}
 use Rattle.star_lex.specs.Answer.{is_some}
 use Rattle.star_lex.proofs.Table.{part-backward, part-some, content-row, content-none}
-use borrow.Author.Rules.{rules}
 use Rattle.star_lex.proofs.has_content.Goals as goal
 
 pub returns-then-tokens-n : goal.returns-then-tokens-n

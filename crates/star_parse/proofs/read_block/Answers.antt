@@ -1,12 +1,7 @@
 -- `read_block` meets its contract: each turn reads entries and one frame and comes back into the block, until neither comes.
-use mathlib.Core.Path.{◌≡◌, refl, ◌∙◌}
-use Prim.Native.Nat.{◌-◌, ◌≤◌}
+use mathlib.Core.Path.{refl, ◌∙◌}
 use native.Mathlib.Omega.{arith}
-use lib.ListN.{length}
-use Rattle.star_lex.specs.Rules.{today, at_stops}
-use Rattle.star_grammar.specs.Machine.{in_block, set_of, within}
-use Rattle.star_parse.specs.Parsed.{four_tables}
-use Rattle.star_parse.specs.Reader.{Bounds, Leads}
+use Rattle.star_grammar.specs.Machine.{in_block, set_of}
 use Rattle.star_parse.proofs.Ahead.{ahead-is, headed-token}
 use Rattle.star_parse.proofs.Going.{comes, stays, onto, over-block, closes}
 use Rattle.star_parse.proofs.read_block.Goals as goal

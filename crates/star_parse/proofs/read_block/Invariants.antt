@@ -1,13 +1,10 @@
-use mathlib.Core.Path.{◌≡◌, refl, ◌∙◌}
+use mathlib.Core.Path.{◌≡◌}
 use Prim.Native.Nat.{◌-◌, ◌≤◌}
-use native.Mathlib.Omega.{arith}
 use lib.ListN.{length}
 use Rattle.star_lex.specs.Rules.{today, at_stops}
-use Rattle.star_grammar.specs.Machine.{in_block, set_of, within}
+use Rattle.star_grammar.specs.Machine.{in_block, within}
 use Rattle.star_parse.specs.Parsed.{four_tables}
 use Rattle.star_parse.specs.Reader.{Bounds, Leads}
-use Rattle.star_parse.proofs.Ahead.{ahead-is, headed-token}
-use Rattle.star_parse.proofs.Going.{comes, stays, onto, over-block, closes}
 use Rattle.star_parse.proofs.read_block.Given as goal
 
 abbrev pub invariant-loop-p : goal.invariant-loop-p

@@ -1,13 +1,12 @@
 -- `read_blocks` meets its contract: each turn reads one block and comes back to before a block, where only a heading or the end is taken.
-use mathlib.Core.Path.{◌≡◌, refl, sym, ap, ◌∙◌}
-use Prim.Native.Nat.{◌-◌}
+use mathlib.Core.Path.{refl, sym, ap, ◌∙◌}
 use native.Mathlib.Omega.{arith}
-use lib.ListN.{length, drop}
+use lib.ListN.{drop}
 use Rattle.star_lex.specs.Rules.{today, at_stops}
 use Rattle.star_grammar.specs.Tables.{no_rows}
 use Rattle.star_grammar.specs.Machine.{start, run}
-use Rattle.star_parse.specs.Parsed.{kind_tokens, four_tables}
-use Rattle.star_parse.specs.Reader.{Bounds, Between, Comes}
+use Rattle.star_parse.specs.Parsed.{kind_tokens}
+use Rattle.star_parse.specs.Reader.{Between}
 use Rattle.star_parse.proofs.Ahead.{at-end, headed, headless}
 use Rattle.star_parse.proofs.Columns.{between_none}
 use Rattle.star_parse.proofs.Counted.{matches-none}

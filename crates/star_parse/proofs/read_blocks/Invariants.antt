@@ -1,17 +1,11 @@
-use mathlib.Core.Path.{◌≡◌, refl, sym, ap, ◌∙◌}
+use mathlib.Core.Path.{◌≡◌}
 use Prim.Native.Nat.{◌-◌}
-use native.Mathlib.Omega.{arith}
-use lib.ListN.{length, drop}
+use lib.ListN.{length}
 use Rattle.star_lex.specs.Rules.{today, at_stops}
 use Rattle.star_grammar.specs.Tables.{no_rows}
 use Rattle.star_grammar.specs.Machine.{start, run}
 use Rattle.star_parse.specs.Parsed.{kind_tokens, four_tables}
-use Rattle.star_parse.specs.Reader.{Bounds, Between, Comes}
-use Rattle.star_parse.proofs.Ahead.{at-end, headed, headless}
-use Rattle.star_parse.proofs.Columns.{between_none}
-use Rattle.star_parse.proofs.Counted.{matches-none}
-use Rattle.star_parse.proofs.Refusing.{start-refuses}
-use Rattle.star_parse.proofs.Going.{comes, refused, whole-refused, accepts}
+use Rattle.star_parse.specs.Reader.{Bounds, Comes}
 use Rattle.star_parse.proofs.read_blocks.Given as goal
 
 abbrev pub invariant-loop-p : goal.invariant-loop-p

@@ -1,13 +1,6 @@
 -- `read_entries` meets its contract: each turn reads one entry and comes back between entries, until a token begins none.
-use mathlib.Core.Path.{◌≡◌, refl, ◌∙◌}
-use mathlib.Core.List.{List}
-use Prim.Native.Nat.{ℕ, ◌-◌, ◌≤◌}
+use mathlib.Core.Path.{refl, ◌∙◌}
 use native.Mathlib.Omega.{arith}
-use lib.ListN.{length}
-use Rattle.star_lex.specs.Rules.{today, at_stops}
-use Rattle.star_grammar.specs.Machine.{Where, set_of, within}
-use Rattle.star_parse.specs.Parsed.{four_tables}
-use Rattle.star_parse.specs.Reader.{Bounds, Leads}
 use Rattle.star_parse.proofs.Ahead.{ahead-is}
 use Rattle.star_parse.proofs.Going.{comes}
 use Rattle.star_parse.proofs.read_entries.Goals as goal

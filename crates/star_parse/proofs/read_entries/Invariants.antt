@@ -1,14 +1,11 @@
-use mathlib.Core.Path.{◌≡◌, refl, ◌∙◌}
+use mathlib.Core.Path.{◌≡◌}
 use mathlib.Core.List.{List}
 use Prim.Native.Nat.{ℕ, ◌-◌, ◌≤◌}
-use native.Mathlib.Omega.{arith}
 use lib.ListN.{length}
 use Rattle.star_lex.specs.Rules.{today, at_stops}
 use Rattle.star_grammar.specs.Machine.{Where, set_of, within}
 use Rattle.star_parse.specs.Parsed.{four_tables}
 use Rattle.star_parse.specs.Reader.{Bounds, Leads}
-use Rattle.star_parse.proofs.Ahead.{ahead-is}
-use Rattle.star_parse.proofs.Going.{comes}
 use Rattle.star_parse.proofs.read_entries.Given as goal
 
 abbrev pub invariant-loop-p : goal.invariant-loop-p

@@ -1,7 +1,6 @@
 -- `read_frame` meets its contract: the heading opens the frame, its entries follow, and then only `save_` leads back to the block.
 use mathlib.Core.Path.{refl, ◌∙◌}
 use native.Mathlib.Omega.{arith}
-use borrow.Author.Rules.{rules}
 use Rattle.star_grammar.specs.Machine.{in_frame, set_of}
 use Rattle.star_parse.proofs.Ahead.{ahead-is}
 use Rattle.star_parse.proofs.Refusing.{frame-refuses}

@@ -1,7 +1,6 @@
 -- `read_item` meets its contract: the name's step and the value's bring a read back between entries, and after the name only a value is taken.
 use mathlib.Core.Path.{◌∙◌}
 use native.Mathlib.Omega.{arith}
-use borrow.Author.Rules.{rules}
 use Rattle.star_parse.proofs.Ahead.{ahead-is}
 use Rattle.star_parse.proofs.Refusing.{named-refuses}
 use Rattle.star_parse.proofs.Going.{comes, refused, over-name, over-item-value}

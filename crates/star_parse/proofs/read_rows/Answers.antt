@@ -1,13 +1,11 @@
 -- `read_rows` meets its contract: what `read_blocks` counts is the answer of an accepted file, and a refused one has no rows.
 use mathlib.Core.Path.{◌≡◌, refl, sym, ◌∙◌}
 use mathlib.Core.Bool.{true, true≢false}
-use borrow.Author.Tests.{not-true, not-false}
 use lib.ListN.{length}
 use Rattle.star_grammar.specs.Tables.{linked}
 use Rattle.star_grammar.proofs.Linking.{length-linked}
 use Rattle.star_parse.specs.Parsed.{has_rows, rows_run}
 use Rattle.star_parse.proofs.RunKinds.{has-rows-fits}
-use borrow.Author.Rules.{rules}
 use Rattle.star_parse.proofs.read_rows.Goals.{Else-not-has_rows}
 use Rattle.star_parse.proofs.read_rows.Goals as goal
 
@@ -32,7 +30,8 @@ returns-then-p-ne0 c =
 pub returns : goal.returns
 unfolding rows_run linked
 returns c =
-    let k = c.read_blocks-p.ensures.accepts c.if-p-ne0.false in record { answers = rw (has (goal.at.returns c).Else-not-has_rows, k.is) (record {
+    let k = c.read_blocks-p.ensures.accepts c.if-p-ne0.false in record {
+      answers = rw (has (goal.at.returns c).Else-not-has_rows, k.is) (record {
         refusal = refl;
         tokens = refl;
         sets = k.matches.sets;
@@ -40,4 +39,6 @@ returns c =
         packets = k.matches.packets;
         values = k.matches.values ∙ sym (length-linked 1 k.rows.values);
         tables = k.matches.tables;
-      }); values_unchanged = λ none. absurd (true≢false (sym (has (goal.at.returns c).Else-not-has_rows) ∙ none)) }
+      });
+      values_unchanged = λ none. absurd (true≢false (sym (has (goal.at.returns c).Else-not-has_rows) ∙ none));
+    }

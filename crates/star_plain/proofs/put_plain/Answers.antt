@@ -1,10 +1,6 @@
 -- `put_plain` meets its contract: what follows the plain form is cleared, and all where it is too long.
 use mathlib.Core.Path.{◌≡◌, sym, ◌∙◌, ap}
-use mathlib.Core.List.{List}
-use Prim.Native.Nat.{ℕ}
 use native.Mathlib.Omega.{arith}
-use borrow.Author.Rules.{rules}
-use borrow.Author.Tests.{not-true, not-false}
 use lib.ListN.{length}
 use Rattle.star_plain.specs.Kept.{plain_rows, plain_in, has_place}
 use Rattle.star_plain.proofs.Putting.{fill-clear}
@@ -41,5 +37,8 @@ returns c =
     let args = c.args in
     let (fits, stands) = has-place (length args.out.now) (plain_in c.args.without c.args.file.now c.args.tokens.now c.args.count) (sym (placed (goal.at.returns c).After-has_place) ∙ c.if-not-has_place.false) in
     let same : plain_rows args.without args.file.now args.tokens.now c.rows_taken-rows.result ≡ plain_in c.args.without c.args.file.now c.args.tokens.now c.args.count
-    = ap (plain_rows args.without args.file.now args.tokens.now) c.rows_taken-rows.ensures in record { value = size (goal.at.returns c).After-has_place; out_after = fill-clear (plain_in c.args.without c.args.file.now c.args.tokens.now c.args.count) args.out.now _ (size (goal.at.returns c).After-has_place) (omega (arith, fits, size (goal.at.returns c).After-has_place)) (rw same at c.put_tokens.ensures) c.clear_bytes-2.ensures
-          ∙ rw (size (goal.at.returns c).After-has_place) (sym stands) }
+    = ap (plain_rows args.without args.file.now args.tokens.now) c.rows_taken-rows.ensures in record {
+      value = size (goal.at.returns c).After-has_place;
+      out_after = fill-clear (plain_in c.args.without c.args.file.now c.args.tokens.now c.args.count) args.out.now _ (size (goal.at.returns c).After-has_place) (omega (arith, fits, size (goal.at.returns c).After-has_place)) (rw same at c.put_tokens.ensures) c.clear_bytes-2.ensures
+          ∙ rw (size (goal.at.returns c).After-has_place) (sym stands);
+    }

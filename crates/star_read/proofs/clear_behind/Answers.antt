@@ -1,5 +1,4 @@
 -- `clear_behind` meets its contract: each table is cleared behind its rows.
-use borrow.Author.Rules.{rules}
 use Rattle.star_read.proofs.clear_behind.Goals as goal
 
 pub returns : goal.returns

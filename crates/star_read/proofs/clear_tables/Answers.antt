@@ -1,6 +1,5 @@
 -- `clear_tables` meets its contract: each table is cleared from its start.
 use mathlib.Core.Path.{◌∙◌}
-use borrow.Author.Rules.{rules}
 use Rattle.star_rows.proofs.Clear.{cleared-whole}
 use Rattle.star_read.specs.Answer.{tables_of}
 use Rattle.star_read.proofs.clear_tables.Goals as goal

@@ -1,7 +1,6 @@
 -- `judge` meets its contract: a name or code that is taken counts before the token that is out of place, and the room comes last.
 use mathlib.Core.Path.{sym, ◌∙◌, ap, subst}
 use Prim.Native.Nat.{ℕ}
-use borrow.Author.Rules.{rules}
 use lib.ListN.{length}
 use Rattle.star_lex.specs.Split.{placed, tokens_of}
 use Rattle.star_grammar.specs.Machine.{Run}

@@ -1,7 +1,6 @@
 -- `place_of` meets its contract: table 1 has the first byte of each token.
 use mathlib.Core.Path.{sym, ◌∙◌}
 use native.Mathlib.Omega.{arith}
-use borrow.Author.Rules.{rules}
 use Rattle.star_read.proofs.Judging.{place-over}
 use Rattle.star_read.proofs.place_of.Goals as goal
 

@@ -1,7 +1,6 @@
 -- `read_as` meets its contract: a refusal of the tokens is reading's, and what follows them is read from table 1.
 use mathlib.Core.Path.{◌≡◌, sym, ◌∙◌, ap, subst}
 use Prim.Native.Nat.{ℕ}
-use borrow.Author.Rules.{rules}
 use lib.ListN.{length}
 use mathlib.Core.Bool.{Bool}
 use mathlib.Core.List.{List}

@@ -2,7 +2,6 @@
 use mathlib.Core.Path.{◌≡◌, sym, subst}
 use Prim.Native.Nat.{◌≤◌, ◌<◌}
 use native.Mathlib.Omega.{arith}
-use borrow.Author.Rules.{rules}
 use Rattle.star_read.specs.Read.{ReadOutcome}
 use Rattle.star_read.specs.Answer.{Tables, Gives}
 use Rattle.star_read.specs.declared.Answer.{Answer}

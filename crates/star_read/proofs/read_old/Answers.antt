@@ -1,5 +1,4 @@
 -- `read_old` meets its contract: layout 0 is today's.
-use borrow.Author.Rules.{rules}
 use Rattle.star_lex.specs.Rules.{layout_rules}
 use Rattle.star_read.proofs.read_old.Goals as goal
 

@@ -1,6 +1,5 @@
 -- `read_tables` meets its contract: what `judge` refuses is refused with cleared tables, and else the rows that were stored are all there.
 use mathlib.Core.Path.{◌≡◌, sym, ◌∙◌, ap}
-use borrow.Author.Rules.{rules}
 use lib.ListN.{length}
 use Rattle.star_text.specs.Outcome.{accepted, then}
 use Rattle.star_lex.specs.Rules.{layout_rules, at_stops}

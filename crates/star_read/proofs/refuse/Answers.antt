@@ -1,6 +1,5 @@
 -- `refuse` meets its contract: the tables are cleared.
 use mathlib.Core.Path.{refl}
-use borrow.Author.Rules.{rules}
 use Rattle.star_read.specs.Answer.{read_answer}
 use Rattle.star_read.proofs.refuse.Goals as goal
 

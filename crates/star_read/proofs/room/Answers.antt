@@ -1,10 +1,8 @@
 -- `room` meets its contract: the tables are tested in their order.
 use mathlib.Core.Path.{sym, ◌∙◌}
-use borrow.Author.Tests.{not-true, not-false}
 use Rattle.star_text.specs.Outcome.{need, refusal_of, place_of}
 use Rattle.star_read.specs.Read.{room_for}
 use Rattle.star_read.specs.Judged.{judged_of}
-use borrow.Author.Rules.{rules}
 use Rattle.star_read.proofs.room.Goals as goal
 
 pub returns-then-not-fits : goal.returns-then-not-fits

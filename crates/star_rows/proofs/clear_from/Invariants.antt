@@ -1,8 +1,6 @@
 use Prim.Native.Nat.{◌-◌}
-use native.Mathlib.Omega.{arith}
-use borrow.Author.Rules.{rules}
 use lib.ListN.{length}
-use Rattle.star_rows.proofs.Clear.{Clearing, clearing-start, clearing-turn, clearing-end}
+use Rattle.star_rows.proofs.Clear.{Clearing}
 use Rattle.star_rows.proofs.clear_from.Given as goal
 
 abbrev pub invariant-loop-at : goal.invariant-loop-at

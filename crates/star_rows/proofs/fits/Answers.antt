@@ -1,7 +1,6 @@
 -- `fits` meets its contract: the product of two 32-bit numbers does not wrap.
 use native.Mathlib.Omega.{arith}
 use Rattle.star_rows.proofs.Words.{small_product}
-use borrow.Author.Rules.{rules}
 use Rattle.star_rows.proofs.fits.Goals as goal
 
 pub overflow_mul-result : goal.overflow_mul-result

@@ -4,7 +4,6 @@ use native.Mathlib.Numerals.{add-one, add-two, add-three}
 use native.Mathlib.Omega.{arith}
 use lib.ListN.{length-set}
 use Rattle.star_rows.proofs.Stored.{put-fits, put_full}
-use borrow.Author.Rules.{rules}
 use Rattle.star_rows.proofs.put4.Goals as goal
 
 pub bounds-table-at-then-n-table : goal.bounds-table-at-then-n-table

@@ -3,7 +3,6 @@ use mathlib.Core.Path.{sym}
 use Prim.Native.Nat.{◌-◌, ◌*◌, ◌≤◌}
 use native.Mathlib.Omega.{arith}
 use Rattle.star_rows.proofs.Words.{small_product, word_none, word_row, word-behind}
-use borrow.Author.Rules.{rules}
 use Rattle.star_rows.proofs.word.Goals.{Else-row-eq0}
 use Rattle.star_rows.proofs.word.Goals as goal
 

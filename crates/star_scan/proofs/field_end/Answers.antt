@@ -1,13 +1,7 @@
 -- `field_end` meets its contract: a field closes at a line end or not before the next.
-use mathlib.Core.Path.{◌≡◌, sym, ◌∙◌}
-use Prim.Native.Nat.{◌-◌}
+use mathlib.Core.Path.{sym, ◌∙◌}
 use native.Mathlib.Omega.{arith}
-use borrow.Author.Rules.{rules}
-use lib.ListN.{length, drop}
-use Rattle.star_text.specs.Classes.{Classes}
 use Rattle.star_lex.specs.Rules.{today}
-use Rattle.star_lex.specs.Split.{field}
-use Rattle.star_lex.specs.Answer.{end_of}
 use Rattle.star_lex.proofs.Closing.{field-line, field-over}
 use Rattle.star_scan.proofs.field_end.Goals as goal
 

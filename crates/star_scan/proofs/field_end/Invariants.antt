@@ -1,13 +1,10 @@
-use mathlib.Core.Path.{◌≡◌, sym, ◌∙◌}
+use mathlib.Core.Path.{◌≡◌}
 use Prim.Native.Nat.{◌-◌}
-use native.Mathlib.Omega.{arith}
-use borrow.Author.Rules.{rules}
 use lib.ListN.{length, drop}
 use Rattle.star_text.specs.Classes.{Classes}
 use Rattle.star_lex.specs.Rules.{today}
 use Rattle.star_lex.specs.Split.{field}
 use Rattle.star_lex.specs.Answer.{end_of}
-use Rattle.star_lex.proofs.Closing.{field-line, field-over}
 use Rattle.star_scan.proofs.field_end.Given as goal
 
 abbrev pub invariant-loop-next : goal.invariant-loop-next

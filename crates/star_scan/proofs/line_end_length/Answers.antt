@@ -1,7 +1,6 @@
 -- `line_end_length` meets its contract: a terminate is one line end by itself, but for 13 before 10.
 use mathlib.Core.Path.{sym, ◌∙◌}
 use native.Mathlib.Omega.{arith}
-use borrow.Author.Rules.{rules}
 use Rattle.star_lex.specs.Rules.{today}
 use Rattle.star_lex.proofs.Closing.{line-end-pair, line-end-lone}
 use Rattle.star_scan.proofs.line_end_length.Goals as goal

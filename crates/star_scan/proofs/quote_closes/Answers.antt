@@ -1,5 +1,4 @@
 -- `quote_closes` meets its contract, by the test on the byte.
-use borrow.Author.Rules.{rules}
 use borrow.Author.Tests.{eq-eqb, ne_eqb}
 use Rattle.star_scan.proofs.quote_closes.Goals as goal
 

@@ -1,14 +1,10 @@
 -- `quote_end` meets its contract: where no string closes at a byte and no line ends, it closes where it does from the next byte on.
 use mathlib.Core.Path.{◌≡◌, refl, sym, ◌∙◌}
-use Prim.Native.Nat.{◌-◌}
 use native.Mathlib.Omega.{arith}
-use borrow.Author.Rules.{rules}
-use lib.ListN.{length, get_or, drop}
+use lib.ListN.{get_or}
 use Rattle.star_text.specs.Bytes.{is_terminate}
 use Rattle.star_text.specs.Classes.{Classes}
 use Rattle.star_text.proofs.Classes.{terminate-is}
-use Rattle.star_lex.specs.Split.{quoted}
-use Rattle.star_lex.specs.Answer.{end_of}
 use Rattle.star_lex.proofs.Closing.{quote-at, quote-over}
 use Rattle.star_scan.proofs.quote_end.Goals.{After-is_terminate}
 use Rattle.star_scan.proofs.quote_end.Goals as goal

@@ -1,14 +1,9 @@
-use mathlib.Core.Path.{◌≡◌, refl, sym, ◌∙◌}
+use mathlib.Core.Path.{◌≡◌}
 use Prim.Native.Nat.{◌-◌}
-use native.Mathlib.Omega.{arith}
-use borrow.Author.Rules.{rules}
-use lib.ListN.{length, get_or, drop}
-use Rattle.star_text.specs.Bytes.{is_terminate}
+use lib.ListN.{length, drop}
 use Rattle.star_text.specs.Classes.{Classes}
-use Rattle.star_text.proofs.Classes.{terminate-is}
 use Rattle.star_lex.specs.Split.{quoted}
 use Rattle.star_lex.specs.Answer.{end_of}
-use Rattle.star_lex.proofs.Closing.{quote-at, quote-over}
 use Rattle.star_scan.proofs.quote_end.Given as goal
 
 abbrev pub invariant-loop-at : goal.invariant-loop-at

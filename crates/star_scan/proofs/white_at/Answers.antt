@@ -1,7 +1,6 @@
 -- `white_at` meets its contract: the end counts as white space.
 use mathlib.Core.Path.{sym, ◌∙◌}
 use native.Mathlib.Omega.{arith}
-use borrow.Author.Rules.{rules}
 use Rattle.star_text.proofs.Classes.{white-is}
 use Rattle.star_lex.proofs.Closing.{white-in, white-end}
 use Rattle.star_scan.proofs.white_at.Goals as goal

@@ -1,5 +1,5 @@
 -- `ask` meets its contract: with no slots none is left, else the slots are gone through from the home.
-use Rattle.std.proofs.Common.{false, length, sym, ap, ◌∙◌, arith, rules}
+use Rattle.std.proofs.Common.{false, length, sym, ap, ◌∙◌, arith}
 use Rattle.star_rows.specs.Rows.{word_of}
 use Rattle.star_find.specs.Find.{is_wanted, content_at, refused}
 use Rattle.star_hash.proofs.Hashing.{home-inside}

@@ -1,5 +1,5 @@
 -- `ask_global` meets its contract: the kind word decides.
-use Rattle.std.proofs.Common.{sym, rules, eq-eqb, ne_eqb}
+use Rattle.std.proofs.Common.{sym, eq-eqb, ne_eqb}
 use Rattle.star_find.specs.Find.{refused}
 use Rattle.star_slots.proofs.ask_global.Goals as goal
 

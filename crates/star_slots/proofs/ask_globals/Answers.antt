@@ -1,7 +1,6 @@
 -- `ask_globals` meets its contract: what the sets that are left answer is what all of them do.
-use Rattle.std.proofs.Common.{◌≡◌, ◌≤◌, refl, ◌∙◌, arith}
-use Rattle.star_find.specs.Find.{refused, ask_globals}
-use Rattle.star_slots.specs.Lookup.{slot_ask}
+use Rattle.std.proofs.Common.{refl, ◌∙◌, arith}
+use Rattle.star_find.specs.Find.{refused}
 use Rattle.star_slots.proofs.Scanning.{globals-at, globals-past, globals-none}
 use Rattle.star_slots.proofs.ask_globals.Goals as goal
 

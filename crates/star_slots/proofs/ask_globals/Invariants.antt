@@ -1,7 +1,6 @@
-use Rattle.std.proofs.Common.{◌≡◌, ◌≤◌, refl, ◌∙◌, arith}
-use Rattle.star_find.specs.Find.{refused, ask_globals}
+use Rattle.std.proofs.Common.{◌≡◌, ◌≤◌}
+use Rattle.star_find.specs.Find.{ask_globals}
 use Rattle.star_slots.specs.Lookup.{slot_ask}
-use Rattle.star_slots.proofs.Scanning.{globals-at, globals-past, globals-none}
 use Rattle.star_slots.proofs.ask_globals.Given as goal
 
 abbrev pub invariant-loop-s : goal.invariant-loop-s

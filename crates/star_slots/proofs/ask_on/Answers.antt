@@ -1,5 +1,5 @@
 -- `ask_on` meets its contract: the set is asked first, and after 13 a data block goes on to the global blocks.
-use Rattle.std.proofs.Common.{◌≡◌, arith, rules}
+use Rattle.std.proofs.Common.{◌≡◌, arith}
 use Rattle.star_find.specs.Find.{refused}
 use Rattle.star_find.proofs.Asking.{on-own, on-other, on-block}
 use Rattle.star_slots.proofs.ask_on.Goals as goal

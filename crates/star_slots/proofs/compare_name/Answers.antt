@@ -1,5 +1,5 @@
 -- `compare_name` meets its contract: only a row of the set is compared.
-use Rattle.std.proofs.Common.{sym, refl, rules, eq-eqb, ne_eqb}
+use Rattle.std.proofs.Common.{sym, refl, eq-eqb, ne_eqb}
 use Rattle.star_find.specs.Find.{is_wanted}
 use Rattle.star_slots.proofs.compare_name.Goals as goal
 

@@ -1,5 +1,5 @@
 -- `find` meets its contract: the counts and the set are checked, then the set is asked and, where it goes on, the global blocks before it.
-use Rattle.std.proofs.Common.{◌≡◌, ℕ, ◌≤◌, true, sym, ◌∙◌, rules}
+use Rattle.std.proofs.Common.{◌≡◌, ℕ, ◌≤◌, true, sym, ◌∙◌}
 use mathlib.Core.Bool.{and-eq-true_iff}
 use Rattle.star_find.specs.Find.{Lent, refused, is_row, counts_fit, row_there}
 use Rattle.star_find.specs.declared.Counts.{Counts}

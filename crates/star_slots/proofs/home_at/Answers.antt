@@ -1,5 +1,5 @@
 -- `home_at` meets its contract: by the set and the token that the row's words tell.
-use Rattle.std.proofs.Common.{sym, rules}
+use Rattle.std.proofs.Common.{sym}
 use Rattle.star_slots.specs.Inner.{table_home}
 use Rattle.star_slots.proofs.home_at.Goals as goal
 

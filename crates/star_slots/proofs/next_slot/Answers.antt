@@ -1,5 +1,5 @@
 -- `next_slot` meets its contract: by the test that the definition makes, with a sum that may wrap.
-use Rattle.std.proofs.Common.{arith, rules}
+use Rattle.std.proofs.Common.{arith}
 use Rattle.star_slots.proofs.Slots.{next-sum, next-round}
 use Rattle.star_slots.proofs.next_slot.Goals as goal
 

@@ -1,12 +1,9 @@
 -- `probe` meets its contract: the answer from a slot on is the answer from the home on.
-use Rattle.std.proofs.Common.{◌≡◌, ℕ, ◌-◌, ◌<◌, false, List, length, get_or, sym, refl, ◌∙◌, arith, rules}
-use Rattle.star_rows.specs.Rows.{word_of}
-use Rattle.star_find.specs.Find.{is_wanted, content_at, found, refused}
-use Rattle.star_find.specs.declared.Found.{Found}
+use Rattle.std.proofs.Common.{◌≡◌, ◌-◌, length, get_or, sym, refl, ◌∙◌, arith}
+use Rattle.star_find.specs.Find.{found, refused}
 use Rattle.star_find.specs.declared.Match.{Match}
 use Rattle.star_find.proofs.Looking.{decided}
 use Rattle.star_slots.specs.Slots.{next_slot}
-use Rattle.star_slots.specs.Lookup.{probe}
 use Rattle.star_slots.proofs.Slots.{next-inside}
 use Rattle.star_slots.proofs.Scanning.{slot_held, probe-stop, probe-row, probe-none}
 use Rattle.star_slots.proofs.probe.Goals.{After-compare_name}

@@ -1,13 +1,8 @@
-use Rattle.std.proofs.Common.{◌≡◌, ℕ, ◌-◌, ◌<◌, false, List, length, get_or, sym, refl, ◌∙◌, arith, rules}
+use Rattle.std.proofs.Common.{◌≡◌, ℕ, ◌<◌, false, List, length}
 use Rattle.star_rows.specs.Rows.{word_of}
-use Rattle.star_find.specs.Find.{is_wanted, content_at, found, refused}
+use Rattle.star_find.specs.Find.{is_wanted, content_at}
 use Rattle.star_find.specs.declared.Found.{Found}
-use Rattle.star_find.specs.declared.Match.{Match}
-use Rattle.star_find.proofs.Looking.{decided}
-use Rattle.star_slots.specs.Slots.{next_slot}
 use Rattle.star_slots.specs.Lookup.{probe}
-use Rattle.star_slots.proofs.Slots.{next-inside}
-use Rattle.star_slots.proofs.Scanning.{slot_held, probe-stop, probe-row, probe-none}
 use Rattle.star_slots.proofs.probe.Given as goal
 
 -- the answer of so many slots from one on, and what a slot decides

@@ -1,5 +1,4 @@
 -- `opens_field` meets its contract, by the test.
-use borrow.Author.Rules.{rules}
 use Rattle.star_split.proofs.opens_field.Goals as goal
 
 pub returns-then-line : goal.returns-then-line

@@ -1,6 +1,5 @@
 -- `read_tokens` meets its contract: the table is cleared behind the tokens that are counted.
 use mathlib.Core.Path.{◌∙◌}
-use borrow.Author.Rules.{rules}
 use lib.ListN.{length}
 use Rattle.star_lex.specs.Rules.{today}
 use Rattle.star_lex.specs.Answer.{tokens_in}

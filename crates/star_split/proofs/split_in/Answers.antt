@@ -1,7 +1,6 @@
 -- `split_in` meets its contract: the checks stand in the order of the definition, and a split that refuses counts no tokens.
 use mathlib.Core.Path.{◌≡◌, sym, ◌∙◌, ap}
 use native.Mathlib.Omega.{arith}
-use borrow.Author.Rules.{rules}
 use lib.ListN.{length}
 use Rattle.star_text.specs.Outcome.{refused}
 use Rattle.star_text.proofs.Outcome.{refused≢accepted}

@@ -1,7 +1,7 @@
 -- `all_allowed` meets its contract: the bounds hold of the bytes passed.
-use Rattle.std.proofs.Common.{◌≡◌, ◌-◌, ◌≤◌, length, arith, rules}
+use Rattle.std.proofs.Common.{◌≡◌, length, arith}
 use Rattle.star_text.proofs.Run.{never}
-use Rattle.star_text.proofs.Within.{Within, within_more, within-allowed}
+use Rattle.star_text.proofs.Within.{within_more, within-allowed}
 use Rattle.star_text.proofs.all_allowed.Goals as goal
 
 pub loop-at-init : goal.loop-at-init

@@ -1,6 +1,5 @@
-use Rattle.std.proofs.Common.{◌≡◌, ◌-◌, ◌≤◌, length, arith, rules}
-use Rattle.star_text.proofs.Run.{never}
-use Rattle.star_text.proofs.Within.{Within, within_more, within-allowed}
+use Rattle.std.proofs.Common.{◌-◌, ◌≤◌, length}
+use Rattle.star_text.proofs.Within.{Within}
 use Rattle.star_text.proofs.all_allowed.Given as goal
 
 abbrev pub invariant-loop-at : goal.invariant-loop-at

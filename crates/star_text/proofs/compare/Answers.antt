@@ -1,5 +1,5 @@
 -- `compare` meets its contract: where equal fours end, four that differ decide, or fewer than four are left.
-use Rattle.std.proofs.Common.{arith, rules}
+use Rattle.std.proofs.Common.{arith}
 use Rattle.star_text.proofs.Comparing.{compare-lengths}
 use Rattle.star_text.proofs.compare.Goals as goal
 

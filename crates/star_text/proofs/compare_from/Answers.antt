@@ -1,6 +1,5 @@
 -- `compare_from` meets its contract: the pairs before the present place are compared and equal.
-use Rattle.std.proofs.Common.{◌-◌, length, arith}
-use Rattle.star_text.specs.Pairs.{Comparing}
+use Rattle.std.proofs.Common.{arith}
 use Rattle.star_text.proofs.Comparing.{compare-next, compare-differs, compare-ends}
 use Rattle.star_text.proofs.compare_from.Goals as goal
 

@@ -1,6 +1,5 @@
-use Rattle.std.proofs.Common.{◌-◌, length, arith}
+use Rattle.std.proofs.Common.{◌-◌, length}
 use Rattle.star_text.specs.Pairs.{Comparing}
-use Rattle.star_text.proofs.Comparing.{compare-next, compare-differs, compare-ends}
 use Rattle.star_text.proofs.compare_from.Given as goal
 
 abbrev pub invariant-loop-at : goal.invariant-loop-at

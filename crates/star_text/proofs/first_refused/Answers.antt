@@ -1,8 +1,7 @@
 -- `first_refused` meets its contract: either all bytes are allowed, or those passed are, so what is allowed from the start is what was passed
 -- and what is allowed from here.
-use Rattle.std.proofs.Common.{◌≡◌, ◌+◌, ◌-◌, ◌≤◌, length, drop, sym, ◌∙◌, zero-add, arith, rules}
-use borrow.Author.Tests.{not-true, not-false}
-use Rattle.star_text.specs.Bytes.{is_allowed, leading, first_refused}
+use Rattle.std.proofs.Common.{sym, ◌∙◌, zero-add, arith}
+use Rattle.star_text.specs.Bytes.{is_allowed, first_refused}
 use Rattle.star_text.proofs.Run.{run-goes, run-stops, run_ends}
 use Rattle.star_text.proofs.first_refused.Goals as goal
 

@@ -1,7 +1,5 @@
-use Rattle.std.proofs.Common.{◌≡◌, ◌+◌, ◌-◌, ◌≤◌, length, drop, sym, ◌∙◌, zero-add, arith, rules}
-use borrow.Author.Tests.{not-true, not-false}
-use Rattle.star_text.specs.Bytes.{is_allowed, leading, first_refused}
-use Rattle.star_text.proofs.Run.{run-goes, run-stops, run_ends}
+use Rattle.std.proofs.Common.{◌≡◌, ◌+◌, ◌-◌, ◌≤◌, length, drop}
+use Rattle.star_text.specs.Bytes.{is_allowed, leading}
 use Rattle.star_text.proofs.first_refused.Given as goal
 
 abbrev pub invariant-loop-at : goal.invariant-loop-at

@@ -1,5 +1,5 @@
 -- `four_below` meets its contract: it answers true after four tests alone.
-use Rattle.std.proofs.Common.{◌≡◌, ◌+◌, true, get_or, add-zero, rules, lt-ltb}
+use Rattle.std.proofs.Common.{◌≡◌, ◌+◌, true, get_or, add-zero, lt-ltb}
 use Rattle.star_text.specs.Classes.{below_in}
 use Rattle.star_text.proofs.Run.{each-of-four, never}
 use Rattle.star_text.proofs.four_below.Goals as goal

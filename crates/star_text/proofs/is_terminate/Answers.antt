@@ -1,5 +1,4 @@
 -- `is_terminate` meets its contract by the class of the byte.
-use Rattle.std.proofs.Common.{rules}
 use Rattle.star_text.proofs.is_terminate.Goals as goal
 
 pub returns : goal.returns

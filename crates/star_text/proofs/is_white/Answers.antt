@@ -1,5 +1,4 @@
 -- `is_white` meets its contract by the class of the byte.
-use Rattle.std.proofs.Common.{rules}
 use Rattle.star_text.proofs.is_white.Goals as goal
 
 pub returns : goal.returns

@@ -1,5 +1,5 @@
 -- `pairs_of_four` meets its contract: the first of the four pairs that differs is compared, and those before it.
-use Rattle.std.proofs.Common.{arith, rules}
+use Rattle.std.proofs.Common.{arith}
 use Rattle.star_text.proofs.Comparing.{first-differs, second-differs, third-differs, fourth-differs}
 use Rattle.star_text.proofs.pairs_of_four.Goals as goal
 

@@ -1,7 +1,5 @@
 -- `run_end` meets its contract: the bytes passed are of the run, so its end from here is its end from the start.
-use Rattle.std.proofs.Common.{◌≡◌, ◌+◌, ◌-◌, ltb, length, drop, sym, ap, ◌∙◌, arith, rules, le-ltb, lt-ltb}
-use Rattle.star_text.specs.Bytes.{leading}
-use Rattle.star_text.specs.Classes.{below_in}
+use Rattle.std.proofs.Common.{ltb, sym, ap, ◌∙◌, arith, le-ltb, lt-ltb}
 use Rattle.star_text.proofs.Run.{run-goes, run-stops, run_ends}
 use Rattle.star_text.proofs.run_end.Goals as goal
 

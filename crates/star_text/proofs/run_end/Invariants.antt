@@ -1,7 +1,6 @@
-use Rattle.std.proofs.Common.{◌≡◌, ◌+◌, ◌-◌, ltb, length, drop, sym, ap, ◌∙◌, arith, rules, le-ltb, lt-ltb}
+use Rattle.std.proofs.Common.{◌≡◌, ◌+◌, ◌-◌, length, drop}
 use Rattle.star_text.specs.Bytes.{leading}
 use Rattle.star_text.specs.Classes.{below_in}
-use Rattle.star_text.proofs.Run.{run-goes, run-stops, run_ends}
 use Rattle.star_text.proofs.run_end.Given as goal
 
 abbrev pub invariant-loop-at : goal.invariant-loop-at

@@ -1,8 +1,5 @@
 -- `skip_below` meets its contract: the bytes passed are of the run, so its end from here is its end from the start.
-use Rattle.std.proofs.Common.{◌≡◌, ◌+◌, ◌-◌, length, drop, sym, refl, ◌∙◌, arith}
-use borrow.Author.Tests.{not-false}
-use Rattle.star_text.specs.Bytes.{leading}
-use Rattle.star_text.specs.Classes.{below_in}
+use Rattle.std.proofs.Common.{sym, refl, ◌∙◌, arith}
 use Rattle.star_text.proofs.Run.{run-goes-four}
 use Rattle.star_text.proofs.skip_below.Goals as goal
 

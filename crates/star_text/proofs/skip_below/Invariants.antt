@@ -1,8 +1,6 @@
-use Rattle.std.proofs.Common.{◌≡◌, ◌+◌, ◌-◌, length, drop, sym, refl, ◌∙◌, arith}
-use borrow.Author.Tests.{not-false}
+use Rattle.std.proofs.Common.{◌≡◌, ◌+◌, ◌-◌, length, drop}
 use Rattle.star_text.specs.Bytes.{leading}
 use Rattle.star_text.specs.Classes.{below_in}
-use Rattle.star_text.proofs.Run.{run-goes-four}
 use Rattle.star_text.proofs.skip_below.Given as goal
 
 abbrev pub invariant-loop-at : goal.invariant-loop-at

@@ -1,6 +1,6 @@
 -- `skip_same` meets its contract: four bytes that are one number are four equal pairs.
-use Rattle.std.proofs.Common.{◌-◌, length, sym, subst, arith}
-use Rattle.star_text.specs.Pairs.{Comparing, Four}
+use Rattle.std.proofs.Common.{sym, subst, arith}
+use Rattle.star_text.specs.Pairs.{Four}
 use Rattle.star_text.proofs.Comparing.{compare-starts, compare-four, four-equal, four-differs}
 use Rattle.star_text.proofs.skip_same.Goals as goal
 

@@ -1,6 +1,5 @@
-use Rattle.std.proofs.Common.{◌-◌, length, sym, subst, arith}
-use Rattle.star_text.specs.Pairs.{Comparing, Four}
-use Rattle.star_text.proofs.Comparing.{compare-starts, compare-four, four-equal, four-differs}
+use Rattle.std.proofs.Common.{◌-◌, length}
+use Rattle.star_text.specs.Pairs.{Comparing}
 use Rattle.star_text.proofs.skip_same.Given as goal
 
 abbrev pub invariant-loop-at : goal.invariant-loop-at

@@ -1,5 +1,5 @@
 -- `two` meets its contract: what is read are bytes.
-use Rattle.std.proofs.Common.{◌+◌, refl, arith, rules}
+use Rattle.std.proofs.Common.{◌+◌, refl, arith}
 use Rattle.star_text.proofs.two.Goals as goal
 
 pub overflow_cast-result : goal.overflow_cast-result

@@ -1,7 +1,6 @@
 -- `first_repeat` meets its contract: it marks the tokens before the first repeat, and puts their kinds back.
 use mathlib.Core.Path.{◌∙◌}
 use native.Mathlib.Omega.{arith}
-use borrow.Author.Rules.{rules}
 use Rattle.star_unique.specs.Repeat.{nothing}
 use Rattle.star_unique.specs.Chain.{kinds_in, with_kinds}
 use Rattle.star_lex.specs.Holds.{file_tokens}

@@ -1,8 +1,6 @@
-use mathlib.Core.Path.{sym, ◌∙◌, subst}
-use Prim.Native.Nat.{◌-◌, ◌%◌}
-use native.Mathlib.Omega.{arith}
+use Prim.Native.Nat.{◌%◌}
 use Rattle.star_unique.specs.Chain.{kinds_in, token_by}
-use Rattle.star_unique.proofs.Marks.{Span, Follows, follow-start, follow-end, turn-hit, turn-miss, turn-less, turn-span}
+use Rattle.star_unique.proofs.Marks.{Follows}
 use Rattle.star_unique.proofs.follow.Given as goal
 
 abbrev pub invariant-loop-row : goal.invariant-loop-row

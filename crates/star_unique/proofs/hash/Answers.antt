@@ -1,11 +1,9 @@
 -- `hash` meets its contract: mixing the bytes that are left into what was mixed gives the whole.
-use mathlib.Core.Path.{◌≡◌, refl, sym, ◌∙◌}
-use Prim.Native.Nat.{◌-◌, ◌≤◌, ◌<◌}
+use mathlib.Core.Path.{refl, sym, ◌∙◌}
 use native.Mathlib.Nat.{mod-lt}
 use native.Mathlib.Omega.{arith}
-use lib.ListN.{length, drop}
 use Rattle.star_text.specs.Names.{key}
-use Rattle.star_unique.specs.Chain.{mix, hash_of}
+use Rattle.star_unique.specs.Chain.{hash_of}
 use Rattle.star_unique.proofs.Marks.{mix_next, mix-end}
 use Rattle.star_unique.proofs.hash.Goals as goal
 

@@ -1,11 +1,7 @@
-use mathlib.Core.Path.{◌≡◌, refl, sym, ◌∙◌}
+use mathlib.Core.Path.{◌≡◌}
 use Prim.Native.Nat.{◌-◌, ◌≤◌, ◌<◌}
-use native.Mathlib.Nat.{mod-lt}
-use native.Mathlib.Omega.{arith}
 use lib.ListN.{length, drop}
-use Rattle.star_text.specs.Names.{key}
 use Rattle.star_unique.specs.Chain.{mix, hash_of}
-use Rattle.star_unique.proofs.Marks.{mix_next, mix-end}
 use Rattle.star_unique.proofs.hash.Given as goal
 
 abbrev pub invariant-loop-i : goal.invariant-loop-i

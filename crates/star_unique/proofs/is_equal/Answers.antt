@@ -2,7 +2,6 @@
 use mathlib.Core.Path.{◌∙◌, ap}
 use borrow.Author.Tests.{eq-eqb, ne_eqb}
 use native.Mathlib.Omega.{arith}
-use borrow.Author.Rules.{rules}
 use Rattle.star_text.specs.Compare.{compare_of}
 use Rattle.star_unique.proofs.Marks.{Span, spans-at}
 use Rattle.star_unique.proofs.is_equal.Goals.{Start}

@@ -1,11 +1,8 @@
 -- `mark` meets its contract: the tokens passed repeat nothing, and are marked.
-use mathlib.Core.Path.{◌≡◌, refl, sym, ◌∙◌}
-use Prim.Native.Nat.{◌-◌}
+use mathlib.Core.Path.{refl, sym, ◌∙◌}
 use native.Mathlib.Omega.{arith}
-use borrow.Author.Rules.{rules}
-use lib.ListN.{length}
 use Rattle.star_lex.proofs.Held.{count_small}
-use Rattle.star_unique.proofs.Marking.{Between, between_start, room-here, between-visit, between-taken, between-new, between-value, between-end}
+use Rattle.star_unique.proofs.Marking.{between_start, room-here, between-visit, between-taken, between-new, between-value, between-end}
 use Rattle.star_unique.proofs.mark.Goals as goal
 
 pub loop-n-init : goal.loop-n-init

@@ -1,10 +1,7 @@
-use mathlib.Core.Path.{◌≡◌, refl, sym, ◌∙◌}
+use mathlib.Core.Path.{◌≡◌}
 use Prim.Native.Nat.{◌-◌}
-use native.Mathlib.Omega.{arith}
-use borrow.Author.Rules.{rules}
 use lib.ListN.{length}
-use Rattle.star_lex.proofs.Held.{count_small}
-use Rattle.star_unique.proofs.Marking.{Between, between_start, room-here, between-visit, between-taken, between-new, between-value, between-end}
+use Rattle.star_unique.proofs.Marking.{Between}
 use Rattle.star_unique.proofs.mark.Given as goal
 
 abbrev pub invariant-loop-n : goal.invariant-loop-n

@@ -21,7 +21,6 @@ use Rattle.star_unique.specs.declared.Compared.{Compared}
 use Rattle.star_lex.proofs.Held.{accepted-tokens, table-holds}
 use Rattle.star_unique.proofs.Today.{today-plain, today-repeat}
 use Rattle.star_unique.proofs.Comparing.{none-taken}
-use borrow.Author.Rules.{rules}
 use Rattle.star_unique.proofs.read_tokens.Goals.{Else-found-ne0}
 use Rattle.star_unique.proofs.read_tokens.Goals as goal
 

@@ -1,8 +1,7 @@
 -- `unmark` meets its contract: the kinds up to the present row are put back.
 use mathlib.Core.Path.{◌≡◌, refl, ◌∙◌, ap}
-use Prim.Native.Nat.{◌-◌, ◌*◌, ◌≤◌, ◌<◌}
+use Prim.Native.Nat.{◌*◌, ◌≤◌, ◌<◌}
 use native.Mathlib.Omega.{arith}
-use borrow.Author.Rules.{rules}
 use lib.ListN.{length}
 use Rattle.star_text.specs.Bytes.{most_bytes}
 use Rattle.star_unique.specs.Chain.{unmarked}

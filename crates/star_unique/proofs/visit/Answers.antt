@@ -3,7 +3,6 @@ use mathlib.Core.Path.{◌≡◌, sym, ◌∙◌, ap}
 use Prim.Native.Nat.{ℕ, ◌+◌, ◌*◌, ◌/◌, ◌%◌, ◌≤◌, ◌<◌}
 use native.Mathlib.Omega.{arith}
 use lib.ListN.{get_or}
-use borrow.Author.Rules.{rules}
 use Rattle.star_unique.specs.Chain.{name_sort, sort_at, floor_of, kinds_in, token_by}
 use Rattle.star_lex.proofs.Held.{count_small}
 use Rattle.star_unique.proofs.Marking.{sort-here, visit-plain, visit-taken, visit-new, follows-from, last-small, sign_small}

@@ -1,9 +1,8 @@
 -- `first_value` meets its contract: the answer from a row on is the answer from the first row on.
 use mathlib.Core.Path.{◌≡◌, sym, ◌∙◌, ap}
-use Prim.Native.Nat.{◌+◌, ◌-◌, ◌≤◌, ◌<◌}
+use Prim.Native.Nat.{◌<◌}
 use native.Mathlib.Nat.{sub-zero}
 use native.Mathlib.Omega.{arith}
-use borrow.Author.Rules.{rules}
 use Rattle.star_value.specs.Values.{first_value}
 use Rattle.star_value.proofs.Locating.{first-here, first-later, first-over}
 use Rattle.star_value.proofs.first_value.Goals as goal

@@ -1,10 +1,6 @@
-use mathlib.Core.Path.{◌≡◌, sym, ◌∙◌, ap}
-use Prim.Native.Nat.{◌+◌, ◌-◌, ◌≤◌, ◌<◌}
-use native.Mathlib.Nat.{sub-zero}
-use native.Mathlib.Omega.{arith}
-use borrow.Author.Rules.{rules}
+use mathlib.Core.Path.{◌≡◌}
+use Prim.Native.Nat.{◌+◌, ◌-◌, ◌≤◌}
 use Rattle.star_value.specs.Values.{first_value}
-use Rattle.star_value.proofs.Locating.{first-here, first-later, first-over}
 use Rattle.star_value.proofs.first_value.Given as goal
 
 abbrev pub invariant-loop-row : goal.invariant-loop-row

@@ -2,10 +2,7 @@
 use mathlib.Core.Path.{◌≡◌, refl, sym, ◌∙◌}
 use Prim.Native.Nat.{◌<◌}
 use native.Mathlib.Omega.{arith}
-use borrow.Author.Rules.{rules}
-use borrow.Author.Tests.{not-true, not-false}
 use Rattle.star_find.specs.Find.{found, refused}
-use Rattle.star_value.specs.Values.{follow}
 use Rattle.star_value.proofs.Locating.{follow-done, follow-end, follow-outside, follow-link}
 use Rattle.star_value.proofs.follow.Goals as goal
 

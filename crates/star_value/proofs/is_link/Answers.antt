@@ -3,7 +3,6 @@ use mathlib.Core.Path.{◌≡◌, sym}
 use Prim.Native.Nat.{◌≤◌, ◌<◌}
 use native.Mathlib.Omega.{arith}
 use borrow.Author.Tests.{le-ltb, lt-ltb, le-leb, lt-leb}
-use borrow.Author.Rules.{rules}
 use Rattle.star_rows.specs.Rows.{word_of}
 use Rattle.star_value.specs.Values.{is_link}
 use Rattle.star_value.proofs.is_link.Goals as goal

@@ -1,8 +1,7 @@
 -- `locate` meets its contract: the checks stand in the order of the definition.
 use mathlib.Core.Path.{sym, ◌∙◌}
-use borrow.Author.Tests.{eq-eqb, ne_eqb, not-true, not-false}
+use borrow.Author.Tests.{eq-eqb, ne_eqb}
 use Rattle.star_value.specs.Values.{locate, located, missing}
-use borrow.Author.Rules.{rules}
 use Rattle.star_value.proofs.locate.Goals as goal
 
 pub returns-then-not-row_there : goal.returns-then-not-row_there

@@ -3,7 +3,6 @@ use mathlib.Core.Path.{sym, ◌∙◌, ap}
 use Rattle.star_lex.specs.Table.{further}
 use Rattle.star_value.specs.Values.{value_part, value_span, span_at}
 use Rattle.star_value.proofs.Locating.{located-start}
-use borrow.Author.Rules.{rules}
 use Rattle.star_value.proofs.value_part.Goals as goal
 
 pub returns : goal.returns

@@ -1,7 +1,6 @@
 -- `value_form` meets its contract.
 use lib.Ieee.{of_bits}
 use Rattle.star_value_number.specs.Forms.{value_form_of}
-use borrow.Author.Rules.{rules}
 use Rattle.star_value_number.proofs.value_form.Goals as goal
 
 pub returns-in-Refused : goal.returns-in-Refused

@@ -4,7 +4,6 @@ use native.Mathlib.Omega.{arith}
 use borrow.Author.Tests.{eq-eqb, ne_eqb}
 use Rattle.star_value.specs.Values.{value_at, value_of, value_part}
 use Rattle.star_value_number.specs.Forms.{value_number, value_number_of}
-use borrow.Author.Rules.{rules}
 use Rattle.star_value_number.proofs.value_number.Goals.{Else-refusal-ne0}
 use Rattle.star_value_number.proofs.value_number.Goals as goal
 

@@ -1,7 +1,6 @@
 -- `answer` meets its contract: the tests stand in the order of the definition.
 use mathlib.Core.Path.{◌∙◌, sym, ap}
 use native.Mathlib.Omega.{arith}
-use borrow.Author.Rules.{rules}
 use Rattle.star_write.specs.Answer.{write_answer}
 use Rattle.star_write.proofs.Outcomes.{counted, via-refused, via-long, via-short, via-fits}
 use Rattle.star_write.proofs.answer.Goals as goal

@@ -1,7 +1,5 @@
 -- `drop_header_stops` meets its contract: what is read is written by `finish`.
-use mathlib.Core.Path.{◌≡◌, refl, ◌∙◌}
-use borrow.Author.Rules.{rules}
-use Rattle.star_read.specs.Read.{Sizes, as_old}
+use Rattle.star_read.specs.Read.{as_old}
 use Rattle.star_read.specs.Answer.{tables, sizes, Tables}
 use Rattle.star_read.proofs.Accepted.{read-holds-via}
 use Rattle.star_write.specs.Write.{drop_of}

@@ -1,6 +1,5 @@
 -- `finish` meets its contract: the answer and the output are the outcome's, by reading's answer and the plain form; a refusal clears the tables, and else they are as reading left them.
 use mathlib.Core.Path.{◌≡◌, ◌∙◌, ap, subst}
-use borrow.Author.Rules.{rules}
 use lib.ListN.{length}
 use Rattle.star_lex.specs.Plain.{plain_of}
 use Rattle.star_lex.specs.Holds.{file_tokens}

@@ -1,5 +1,4 @@
 -- `write` is `write_layout` of layout 0, which is today's.
-use borrow.Author.Rules.{rules}
 use Rattle.star_write.proofs.Outcomes.{writes-today}
 use Rattle.star_write.proofs.write.Goals as goal
 

@@ -1,6 +1,5 @@
 -- `exchange` meets its contract: the words are exchanged while table 1 has the kinds of today's layout, and its own kinds come back, since the 1991 layout has no `save_` alone.
 use mathlib.Core.Path.{◌∙◌, ap}
-use borrow.Author.Rules.{rules}
 use Rattle.star_frames.specs.Frames.{from_today}
 use Rattle.star_convert.proofs.TodayTable.{table-back}
 use Rattle.star_convert.proofs.Converting.{no-save}
@@ -16,6 +15,9 @@ put_closes-requires c =
 
 pub returns : goal.returns
 returns c =
-    record { out_after = c.put_closes.ensures; tokens_unchanged = c.from_today.ensures
+    record {
+      out_after = c.put_closes.ensures;
+      tokens_unchanged = c.from_today.ensures
           ∙ ap (from_today c.args.layout c.args.count) c.to_today.ensures
-          ∙ table-back c.args.layout c.args.count c.args.tokens.now (no-save c.args.layout c.args.file.now c.requires.reading_by c.args.tokens.now c.args.count c.requires.holds) }
+          ∙ table-back c.args.layout c.args.count c.args.tokens.now (no-save c.args.layout c.args.file.now c.requires.reading_by c.args.tokens.now c.args.count c.requires.holds);
+    }

@@ -1,16 +1,15 @@
 -- `put_closes` meets its contract: the output begins with the plain form of the tokens passed, in the other layout, and goes on as it was.
 use mathlib.Core.Path.{◌≡◌, refl, ◌∙◌}
 use mathlib.Core.List.{flat_map}
-use Prim.Native.Nat.{◌-◌, ◌*◌, ◌≤◌, ◌<◌}
+use Prim.Native.Nat.{◌*◌, ◌<◌}
 use native.Mathlib.Omega.{arith}
 use lib.ListN.{length, get_or}
 use Rattle.star_lex.specs.Rules.{today}
 use Rattle.star_lex.specs.Plain.{plain_token, plain_by}
 use Rattle.star_lex.specs.Holds.{file_tokens}
-use Rattle.star_plain.specs.Put.{token_of, Filled}
+use Rattle.star_plain.specs.Put.{token_of}
 use Rattle.star_convert.specs.Convert.{other_row}
 use Rattle.star_plain.proofs.Putting.{fill_none}
-use Rattle.star_plain.proofs.Prefix.{plain_first}
 use Rattle.star_convert.proofs.TodayTable.{today-room, today-few}
 use Rattle.star_convert.proofs.Converting.{Swap, swap, swapped}
 use Rattle.star_convert.proofs.frames.put_closes.Goals.{After-content-content, After-token_length-at, In-loop-n}

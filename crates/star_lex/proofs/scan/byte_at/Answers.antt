@@ -1,6 +1,5 @@
 -- `byte_at` meets its contract: past the end no byte stands.
 use mathlib.Core.Path.{sym}
-use borrow.Author.Rules.{rules}
 use Rattle.star_lex.proofs.Closing.{starts-in, starts-end}
 use Rattle.star_lex.proofs.scan.byte_at.Goals as goal
 

@@ -1,14 +1,13 @@
 -- `read_loop` meets its contract: each turn reads the names of one level, and the array of counts has the levels of the header so far.
 use mathlib.Core.Path.{◌≡◌, refl, sym, ◌∙◌}
 use mathlib.Core.List.{List, []}
-use Prim.Native.Nat.{ℕ, ◌+◌, ◌-◌, ◌≤◌, ◌<◌}
+use Prim.Native.Nat.{ℕ, ◌+◌, ◌-◌}
 use native.Mathlib.Omega.{arith}
-use lib.ListN.{length, get_or, set, length-set}
-use Rattle.star_text.specs.Bytes.{most_bytes}
+use lib.ListN.{length-set}
 use Rattle.star_lex.specs.Rules.{today, at_stops}
 use Rattle.star_grammar.specs.Machine.{Where, set_of, header}
 use Rattle.star_parse.specs.Parsed.{four_tables}
-use Rattle.star_parse.specs.Reader.{Ready, PassesWith, Unvalued, name_at}
+use Rattle.star_parse.specs.Reader.{PassesWith, Unvalued, name_at}
 use Rattle.star_parse.proofs.Ahead.{ahead-is}
 use Rattle.star_parse.proofs.Headers.{outers, outers-length, outers-more, few-none, few-more, named_more, name-more, header-in, loop-in}
 use Rattle.star_parse.proofs.Refusing.{nameless-refuses, deepest-refuses}
@@ -85,8 +84,14 @@ bounds-counts-0 c = omega arith
 pub read_packets-requires : goal.read_packets-requires
 read_packets-requires c =
     let l = c.loop-counts in
-    let level = c.read_names-p in record { ready = level.ensures.ready; no_entry = record { loop = λ h. c.if-sort-ne-LOOP.true (c.sort_at-sort.ensures.is ∙ h); name = level.ensures.last }; in_loop = loop-in l.counts l.level _ l.invariant.3 l.invariant.2 _ l.invariant.4 (omega (arith, level.ensures.ready)) l.invariant.9
-              (omega (arith, c.if-n-eq0.false)) (omega (arith, c.requires, c.opened-p.ensures)); outermost = record { level = refl; filled = refl; parent = refl }; levels_value = name-more l.counts l.level _ l.invariant.3 l.invariant.2 _ level.result.names l.p.names l.invariant.10 refl level.ensures.counted }
+    let level = c.read_names-p in record {
+      ready = level.ensures.ready;
+      no_entry = record { loop = λ h. c.if-sort-ne-LOOP.true (c.sort_at-sort.ensures.is ∙ h); name = level.ensures.last };
+      in_loop = loop-in l.counts l.level _ l.invariant.3 l.invariant.2 _ l.invariant.4 (omega (arith, level.ensures.ready)) l.invariant.9
+          (omega (arith, c.if-n-eq0.false)) (omega (arith, c.requires, c.opened-p.ensures));
+      outermost = record { level = refl; filled = refl; parent = refl };
+      levels_value = name-more l.counts l.level _ l.invariant.3 l.invariant.2 _ level.result.names l.p.names l.invariant.10 refl level.ensures.counted;
+    }
 
 pub returns-then-sort-ne-LOOP : goal.returns-then-sort-ne-LOOP
 returns-then-sort-ne-LOOP c =

@@ -1,17 +1,13 @@
-use mathlib.Core.Path.{◌≡◌, refl, sym, ◌∙◌}
+use mathlib.Core.Path.{◌≡◌}
 use mathlib.Core.List.{List, []}
 use Prim.Native.Nat.{ℕ, ◌+◌, ◌-◌, ◌≤◌, ◌<◌}
-use native.Mathlib.Omega.{arith}
-use lib.ListN.{length, get_or, set, length-set}
+use lib.ListN.{length, get_or}
 use Rattle.star_text.specs.Bytes.{most_bytes}
 use Rattle.star_lex.specs.Rules.{today, at_stops}
 use Rattle.star_grammar.specs.Machine.{Where, set_of, header}
 use Rattle.star_parse.specs.Parsed.{four_tables}
 use Rattle.star_parse.specs.Reader.{Ready, PassesWith, Unvalued, name_at}
-use Rattle.star_parse.proofs.Ahead.{ahead-is}
-use Rattle.star_parse.proofs.Headers.{outers, outers-length, outers-more, few-none, few-more, named_more, name-more, header-in, loop-in}
-use Rattle.star_parse.proofs.Refusing.{nameless-refuses, deepest-refuses}
-use Rattle.star_parse.proofs.Going.{refused, over-loop, over-level}
+use Rattle.star_parse.proofs.Headers.{outers}
 use Rattle.star_parse.proofs.header.read_loop.Given as goal
 
 abbrev pub invariant-loop-counts : goal.invariant-loop-counts

@@ -1,13 +1,7 @@
 -- `read_names` meets its contract: each turn passes one name of the level, so that as many have come as name rows were put.
 use mathlib.Core.Path.{◌≡◌, refl, ◌∙◌}
-use mathlib.Core.List.{List}
-use Prim.Native.Nat.{ℕ, suc, ◌-◌, ◌≤◌}
+use Prim.Native.Nat.{suc, ◌-◌}
 use native.Mathlib.Omega.{arith}
-use lib.ListN.{length}
-use Rattle.star_lex.specs.Rules.{Rules}
-use Rattle.star_grammar.specs.Machine.{Where, set_of, header}
-use Rattle.star_parse.specs.Parsed.{four_tables}
-use Rattle.star_parse.specs.Reader.{Ready, PassesWith, Unvalued}
 use Rattle.star_parse.proofs.Ahead.{ahead-is}
 use Rattle.star_parse.proofs.Going.{over-level-name}
 use Rattle.star_parse.proofs.header.read_names.Goals as goal

@@ -3,7 +3,6 @@ use mathlib.Core.Path.{refl, ◌∙◌}
 use mathlib.Core.List.{[]}
 use Prim.Native.Nat.{ℕ, ◌-◌}
 use native.Mathlib.Omega.{arith}
-use borrow.Author.Rules.{rules}
 use Rattle.star_parse.proofs.Ahead.{ahead-is, further-on}
 use Rattle.star_parse.proofs.Refusing.{closed-refuses}
 use Rattle.star_parse.proofs.Columns.{columns-none}

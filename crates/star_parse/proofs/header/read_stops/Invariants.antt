@@ -1,17 +1,11 @@
-use mathlib.Core.Path.{◌≡◌, refl, ◌∙◌}
+use mathlib.Core.Path.{◌≡◌}
 use mathlib.Core.List.{List}
 use Prim.Native.Nat.{ℕ, ◌+◌, ◌-◌, ◌≤◌, ◌<◌}
-use native.Mathlib.Numerals.{add-one}
-use native.Mathlib.Omega.{arith}
-use borrow.Author.Tests.{not-true, not-false}
 use lib.ListN.{length}
 use Rattle.star_lex.specs.Rules.{today, at_stops}
 use Rattle.star_grammar.specs.Machine.{Where, header}
 use Rattle.star_parse.specs.Parsed.{FourTables}
 use Rattle.star_parse.specs.Reader.{Ready, PassesWith, Unvalued}
-use Rattle.star_parse.proofs.Ahead.{ahead-is}
-use Rattle.star_parse.proofs.Refusing.{retired-refuses}
-use Rattle.star_parse.proofs.Going.{comes, refused, over-header-stop}
 use Rattle.star_parse.proofs.header.read_stops.Given as goal
 
 abbrev pub invariant-loop-stops : goal.invariant-loop-stops

@@ -1,5 +1,4 @@
 -- `back_to` meets its contract: where the last packet began at a row, its distance is that from the next row.
-use borrow.Author.Rules.{rules}
 use Rattle.star_parse.proofs.Columns.{back_none, back-past, back_some}
 use Rattle.star_parse.proofs.packets.back_to.Goals as goal
 

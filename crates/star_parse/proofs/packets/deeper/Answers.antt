@@ -1,6 +1,5 @@
 -- `deeper` meets its contract: the next level is one of the array, and the names of the current one are few, so that its first name row fits.
 use native.Mathlib.Omega.{arith}
-use borrow.Author.Rules.{rules}
 use Rattle.star_parse.proofs.packets.deeper.Goals as goal
 
 pub bounds-counts-level : goal.bounds-counts-level

@@ -2,7 +2,6 @@
 use mathlib.Core.Path.{ap, ◌∙◌}
 use Prim.Native.Nat.{ℕ}
 use native.Mathlib.Omega.{arith}
-use borrow.Author.Rules.{rules}
 use lib.ListN.{get_or}
 use Rattle.star_parse.specs.Reader.{back_to, inner_of}
 use Rattle.star_parse.proofs.Columns.{back-bound, filling-all}

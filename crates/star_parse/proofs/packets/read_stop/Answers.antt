@@ -1,7 +1,6 @@
 -- `read_stop` meets its contract: where no value comes, an open inner level takes `stop_` alone.
 use mathlib.Core.Path.{◌∙◌}
 use native.Mathlib.Omega.{arith}
-use borrow.Author.Rules.{rules}
 use Rattle.star_parse.proofs.Ahead.{ahead-is}
 use Rattle.star_parse.proofs.Refusing.{open-refuses}
 use Rattle.star_parse.proofs.Going.{comes, refused, over-stop}

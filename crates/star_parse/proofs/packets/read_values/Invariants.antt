@@ -1,14 +1,11 @@
-use mathlib.Core.Path.{◌≡◌, refl, ap, ◌∙◌}
+use mathlib.Core.Path.{◌≡◌}
 use mathlib.Core.List.{List}
 use Prim.Native.Nat.{ℕ, ◌+◌, ◌-◌, ◌≤◌, ◌<◌}
-use native.Mathlib.Omega.{arith}
 use lib.ListN.{length, get_or}
 use Rattle.star_lex.specs.Rules.{Rules}
 use Rattle.star_grammar.specs.Machine.{Where, Level}
 use Rattle.star_parse.specs.Parsed.{four_tables}
 use Rattle.star_parse.specs.Reader.{Ready, PassesWith, name_at, back_to, Filling, inner_of, level_of, partly}
-use Rattle.star_parse.proofs.Ahead.{ahead-is}
-use Rattle.star_parse.proofs.Going.{comes, becomes, over-value, full, not_full}
 use Rattle.star_parse.proofs.packets.read_values.Given as goal
 
 abbrev pub invariant-loop-s : goal.invariant-loop-s

@@ -8,7 +8,6 @@ use lib.ListN.{length, set, length-set}
 use Rattle.star_rows.specs.Rows.{put_row}
 use Rattle.star_rows.proofs.Stored.{put-fits, put_full}
 use Rattle.star_rows.proofs.WordPut.{word_fits, word-full}
-use borrow.Author.Rules.{rules}
 use Rattle.star_parse.proofs.progress.put_linked.Goals as goal
 
 pub bounds-values-at : goal.bounds-values-at

@@ -1,6 +1,5 @@
 -- `put_value` meets its contract: `put_linked` writes the row and the link to it.
 use native.Mathlib.Omega.{arith}
-use borrow.Author.Rules.{rules}
 use Rattle.star_parse.proofs.progress.put_value.Goals as goal
 
 pub returns : goal.returns

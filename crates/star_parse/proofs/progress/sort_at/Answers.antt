@@ -1,5 +1,4 @@
 -- `sort_at` meets its contract: the row at the place begins with the token's kind, and past the last row is the end.
-use borrow.Author.Rules.{rules}
 use Rattle.star_parse.proofs.Ahead.{sort-token, sort-end}
 use Rattle.star_parse.proofs.progress.sort_at.Goals as goal
 

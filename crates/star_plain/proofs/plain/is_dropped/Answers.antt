@@ -1,6 +1,5 @@
 -- `is_dropped` meets its contract, by the kind, by whether header stops are dropped and by what stands before.
-use mathlib.Core.Path.{refl, sym, ◌∙◌}
-use borrow.Author.Rules.{rules}
+use mathlib.Core.Path.{sym, ◌∙◌}
 use Rattle.star_plain.specs.Kept.{headed_at}
 use Rattle.star_plain.proofs.Keeping.{other-kept, stop-dropped}
 use Rattle.star_plain.proofs.plain.is_dropped.Goals as goal

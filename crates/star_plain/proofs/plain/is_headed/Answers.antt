@@ -1,6 +1,5 @@
 -- `is_headed` meets its contract: each turn passes over one `stop_`, before which stands what stands after it.
 use mathlib.Core.Path.{◌≡◌, refl, sym, ◌∙◌, ap}
-use mathlib.Core.List.{List}
 use Prim.Native.Nat.{ℕ, suc, ◌-◌, ◌≤◌}
 use native.Mathlib.Omega.{arith}
 use Rattle.star_plain.specs.Kept.{headed_at}

@@ -1,9 +1,7 @@
-use mathlib.Core.Path.{◌≡◌, refl, sym, ◌∙◌, ap}
+use mathlib.Core.Path.{◌≡◌}
 use mathlib.Core.List.{List}
-use Prim.Native.Nat.{ℕ, suc, ◌-◌, ◌≤◌}
-use native.Mathlib.Omega.{arith}
+use Prim.Native.Nat.{ℕ, ◌≤◌}
 use Rattle.star_plain.specs.Kept.{headed_at}
-use Rattle.star_plain.proofs.Keeping.{headed-stop, headed-other, headed-none}
 use Rattle.star_plain.proofs.plain.is_headed.Given as goal
 
 abbrev pub invariant-loop-m : goal.invariant-loop-m

@@ -1,5 +1,4 @@
 -- `kept_length` meets its contract: a token that is dropped takes no bytes.
-use borrow.Author.Rules.{rules}
 use Rattle.star_plain.specs.Kept.{kept_plain}
 use Rattle.star_plain.proofs.plain.kept_length.Goals as goal
 

@@ -1,6 +1,6 @@
 -- `plain_length` meets its contract: the sum so far is the length of the plain form of the rows passed, of which none is longer than the file and ten bytes.
-use mathlib.Core.Path.{◌≡◌, ◌∙◌, ap}
-use Prim.Native.Nat.{◌-◌, ◌*◌, ◌≤◌}
+use mathlib.Core.Path.{◌∙◌, ap}
+use Prim.Native.Nat.{◌*◌, ◌≤◌}
 use native.Mathlib.Omega.{arith}
 use lib.ListN.{length, get_or}
 use Rattle.star_plain.specs.Put.{token_of}

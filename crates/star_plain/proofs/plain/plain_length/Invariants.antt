@@ -1,11 +1,7 @@
-use mathlib.Core.Path.{◌≡◌, ◌∙◌, ap}
+use mathlib.Core.Path.{◌≡◌}
 use Prim.Native.Nat.{◌-◌, ◌*◌, ◌≤◌}
-use native.Mathlib.Omega.{arith}
-use lib.ListN.{length, get_or}
-use Rattle.star_plain.specs.Put.{token_of}
+use lib.ListN.{length}
 use Rattle.star_plain.specs.Kept.{plain_rows}
-use Rattle.star_plain.proofs.Lengths.{short-plain}
-use Rattle.star_plain.proofs.Keeping.{none-long, Next, next, kept-short}
 use Rattle.star_plain.proofs.plain.plain_length.Given as goal
 
 abbrev pub invariant-loop-n : goal.invariant-loop-n

@@ -1,5 +1,4 @@
 -- `put_kept` meets its contract: a token that is dropped puts nothing.
-use borrow.Author.Rules.{rules}
 use Rattle.star_plain.specs.Kept.{kept_plain}
 use Rattle.star_plain.proofs.Putting.{fill_none}
 use Rattle.star_plain.proofs.plain.put_kept.Goals as goal

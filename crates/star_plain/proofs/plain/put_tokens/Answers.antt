@@ -1,11 +1,9 @@
 -- `put_tokens` meets its contract: the output begins with the plain form of the rows passed, and each turn fills more of the room that is left.
 use mathlib.Core.Path.{◌≡◌, refl, ◌∙◌}
-use Prim.Native.Nat.{◌-◌, ◌*◌, ◌≤◌}
+use Prim.Native.Nat.{◌-◌, ◌*◌}
 use native.Mathlib.Omega.{arith}
 use borrow.Rule.Slice.PartMut.{same_len_mid}
 use lib.ListN.{length, get_or, length-take, length-drop}
-use Rattle.star_plain.specs.Put.{Filled}
-use Rattle.star_plain.specs.Kept.{plain_rows}
 use Rattle.star_plain.proofs.Putting.{fill-rest}
 use Rattle.star_plain.proofs.Keeping.{none_filled, Next, next}
 use Rattle.star_plain.proofs.plain.put_tokens.Goals.{After-is_dropped-dropped}

@@ -1,12 +1,8 @@
-use mathlib.Core.Path.{◌≡◌, refl, ◌∙◌}
-use Prim.Native.Nat.{◌-◌, ◌*◌, ◌≤◌}
-use native.Mathlib.Omega.{arith}
-use borrow.Rule.Slice.PartMut.{same_len_mid}
-use lib.ListN.{length, get_or, length-take, length-drop}
+use mathlib.Core.Path.{◌≡◌}
+use Prim.Native.Nat.{◌-◌, ◌≤◌}
+use lib.ListN.{length}
 use Rattle.star_plain.specs.Put.{Filled}
 use Rattle.star_plain.specs.Kept.{plain_rows}
-use Rattle.star_plain.proofs.Putting.{fill-rest}
-use Rattle.star_plain.proofs.Keeping.{none_filled, Next, next}
 use Rattle.star_plain.proofs.plain.put_tokens.Given as goal
 
 abbrev pub invariant-loop-n : goal.invariant-loop-n

@@ -1,9 +1,6 @@
 -- `clear_bytes` meets its contract: the bytes from `from` up to the present place are 0, and the others are as they were.
-use Prim.Native.Nat.{◌-◌}
 use native.Mathlib.Omega.{arith}
-use borrow.Author.Rules.{rules}
-use lib.ListN.{length}
-use Rattle.star_rows.proofs.Clear.{Clearing, clearing-start, clearing-turn, clearing-end}
+use Rattle.star_rows.proofs.Clear.{clearing-start, clearing-turn, clearing-end}
 use Rattle.star_plain.proofs.room.clear_bytes.Goals as goal
 
 pub loop-at-init : goal.loop-at-init

@@ -1,7 +1,6 @@
 -- `put_within` meets its contract: the two tests are whether the room has place for the bytes.
 use Prim.Native.Nat.{◌+◌, ◌≤◌, ◌<◌}
 use native.Mathlib.Omega.{arith}
-use borrow.Author.Rules.{rules}
 use borrow.Author.Tests.{le-leb, lt-leb}
 use lib.ListN.{length}
 use Rattle.star_plain.specs.Put.{within}

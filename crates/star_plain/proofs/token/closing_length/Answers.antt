@@ -1,5 +1,4 @@
 -- `closing_length` meets its contract: the kind tells how many.
-use borrow.Author.Rules.{rules}
 use borrow.Author.Tests.{ne_eqb}
 use Rattle.star_lex.specs.Plain.{closing}
 use Rattle.star_plain.proofs.token.closing_length.Goals as goal

@@ -1,6 +1,5 @@
 -- `field_closing` meets its contract: the last byte of the content tells the bytes.
 use mathlib.Core.Path.{sym, ◌∙◌}
-use borrow.Author.Rules.{rules}
 use Rattle.star_lex.specs.Plain.{newline, closing}
 use Rattle.star_plain.proofs.token.field_closing.Goals as goal
 

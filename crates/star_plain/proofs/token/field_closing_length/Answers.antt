@@ -1,6 +1,5 @@
 -- `field_closing_length` meets its contract: the last byte of the content tells how many.
 use mathlib.Core.Path.{sym, ◌∙◌}
-use borrow.Author.Rules.{rules}
 use Rattle.star_lex.specs.Plain.{newline, closing}
 use Rattle.star_plain.proofs.token.field_closing_length.Goals as goal
 

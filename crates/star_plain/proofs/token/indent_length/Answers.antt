@@ -1,6 +1,5 @@
 -- `indent_length` meets its contract, by the test that decides whether a blank stands before the token.
 use mathlib.Core.Path.{sym, ◌∙◌}
-use borrow.Author.Rules.{rules}
 use Rattle.star_lex.specs.Plain.{indent}
 use Rattle.star_plain.proofs.token.indent_length.Goals as goal
 

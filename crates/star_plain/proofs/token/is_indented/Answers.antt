@@ -1,5 +1,4 @@
 -- `is_indented` meets its contract, by the tests on the kind and the first byte.
-use borrow.Author.Rules.{rules}
 use borrow.Author.Tests.{eq-eqb, ne_eqb}
 use Rattle.star_plain.proofs.token.is_indented.Goals as goal
 

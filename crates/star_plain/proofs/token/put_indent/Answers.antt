@@ -1,7 +1,6 @@
 -- `put_indent` meets its contract, by the test that decides whether a blank stands before the token.
 use mathlib.Core.Path.{sym, ◌∙◌}
 use native.Mathlib.Omega.{arith}
-use borrow.Author.Rules.{rules}
 use Rattle.star_lex.specs.Plain.{indent}
 use Rattle.star_plain.proofs.Putting.{put-none}
 use Rattle.star_plain.proofs.token.put_indent.Goals as goal

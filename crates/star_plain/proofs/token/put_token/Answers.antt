@@ -1,7 +1,6 @@
 -- `put_token` meets its contract: each part of the plain form is put where the one before it ends.
 use mathlib.Core.List.{append_assoc}
 use native.Mathlib.Omega.{arith}
-use borrow.Author.Rules.{rules}
 use Rattle.star_lex.specs.Plain.{plain_token}
 use Rattle.star_plain.specs.Put.{token_of}
 use Rattle.star_plain.proofs.Putting.{fill_none, fill-put}

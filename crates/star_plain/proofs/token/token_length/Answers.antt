@@ -1,6 +1,5 @@
 -- `token_length` meets its contract: it adds up the lengths of the parts, of which all but the content are short.
 use native.Mathlib.Omega.{arith}
-use borrow.Author.Rules.{rules}
 use Rattle.star_plain.specs.Put.{token_of}
 use Rattle.star_plain.proofs.Lengths.{short-opening, short-closing, short-indent, length-plain}
 use Rattle.star_plain.proofs.token.token_length.Goals as goal

@@ -1,9 +1,6 @@
 -- `begins` meets its contract: where the bytes passed agree, what follows the rest follows the whole.
-use mathlib.Core.Path.{◌≡◌, refl, sym, ◌∙◌, ap}
-use Prim.Native.Nat.{◌≤◌, ◌-◌}
+use mathlib.Core.Path.{refl, sym, ◌∙◌, ap}
 use native.Mathlib.Omega.{arith}
-use lib.ListN.{length, drop}
-use Rattle.star_lex.specs.Split.{after}
 use Rattle.star_lex.specs.Answer.{is_some}
 use Rattle.star_lex.proofs.Words.{after-goes, after-differs, after-ends, after-short}
 use Rattle.star_scan.proofs.word.begins.Goals as goal

@@ -1,10 +1,7 @@
-use mathlib.Core.Path.{◌≡◌, refl, sym, ◌∙◌, ap}
+use mathlib.Core.Path.{◌≡◌}
 use Prim.Native.Nat.{◌≤◌, ◌-◌}
-use native.Mathlib.Omega.{arith}
 use lib.ListN.{length, drop}
 use Rattle.star_lex.specs.Split.{after}
-use Rattle.star_lex.specs.Answer.{is_some}
-use Rattle.star_lex.proofs.Words.{after-goes, after-differs, after-ends, after-short}
 use Rattle.star_scan.proofs.word.begins.Given as goal
 
 abbrev pub invariant-loop-i : goal.invariant-loop-i
