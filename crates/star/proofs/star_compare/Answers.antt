@@ -1,5 +1,4 @@
 -- `star_compare` meets its contract, which is that of `compare`.
-use borrow.Author.Rules.{rules}
 use Rattle.star.proofs.star_compare.Goals as goal
 
 pub returns : goal.returns

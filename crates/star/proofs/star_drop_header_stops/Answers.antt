@@ -1,5 +1,4 @@
 -- `star_drop_header_stops` is `drop_header_stops` of star_write, with its contract.
-use borrow.Author.Rules.{rules}
 use Rattle.star.proofs.star_drop_header_stops.Goals as goal
 
 pub returns : goal.returns

@@ -1,5 +1,4 @@
 -- `star_find_block` is `find_block` of the crate below, with its contract.
-use borrow.Author.Rules.{rules}
 use Rattle.star.proofs.star_find_block.Goals as goal
 
 pub returns : goal.returns

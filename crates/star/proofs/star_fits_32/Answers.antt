@@ -1,5 +1,4 @@
 -- `star_fits_32` is `fits_32` of star_check, with its contract.
-use borrow.Author.Rules.{rules}
 use Rattle.star.proofs.star_fits_32.Goals as goal
 
 pub returns : goal.returns

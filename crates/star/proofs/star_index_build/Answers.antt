@@ -1,5 +1,4 @@
 -- `star_index_build` is `build` of star_build, with its contract.
-use borrow.Author.Rules.{rules}
 use Rattle.star.proofs.star_index_build.Goals as goal
 
 pub returns : goal.returns

@@ -1,5 +1,4 @@
 -- `star_index_check` is `check` of star_index, with its contract.
-use borrow.Author.Rules.{rules}
 use Rattle.star.proofs.star_index_check.Goals as goal
 
 pub returns : goal.returns

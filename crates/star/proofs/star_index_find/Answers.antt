@@ -1,5 +1,4 @@
 -- `star_index_find` is `find` of star_slots, with its contract.
-use borrow.Author.Rules.{rules}
 use Rattle.star.proofs.star_index_find.Goals as goal
 
 pub returns : goal.returns

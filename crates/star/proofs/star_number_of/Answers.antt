@@ -1,7 +1,6 @@
 -- `star_number_of` is `number_of` of the crate below, as its form.
 use mathlib.Core.Path.{◌∙◌, ap}
 use Rattle.star_number.specs.Forms.{form_of}
-use borrow.Author.Rules.{rules}
 use Rattle.star.proofs.star_number_of.Goals as goal
 
 pub returns : goal.returns

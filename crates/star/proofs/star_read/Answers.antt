@@ -1,5 +1,4 @@
 -- `star_read` is `read_layout` of the crate below, with its contract.
-use borrow.Author.Rules.{rules}
 use Rattle.star.proofs.star_read.Goals as goal
 
 pub returns : goal.returns

@@ -1,7 +1,6 @@
 -- `star_value_number` is `value_number` of the crate below, as its form.
 use mathlib.Core.Path.{◌∙◌, ap}
 use Rattle.star_value_number.specs.Forms.{value_form_of}
-use borrow.Author.Rules.{rules}
 use Rattle.star.proofs.star_value_number.Goals as goal
 
 pub returns : goal.returns

@@ -1,5 +1,4 @@
 -- `star_value_part` is `value_span` of the crate below, with its contract.
-use borrow.Author.Rules.{rules}
 use Rattle.star.proofs.star_value_part.Goals as goal
 
 pub returns : goal.returns
