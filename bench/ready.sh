@@ -2,13 +2,14 @@
 # against libstar.a; sets bench to it and work to a folder for the run alone.
 # entry prints the function of a call, whose instructions are counted.
 #
-# STAR_LIB_DIR names the folder of libstar.a, by default target/staticlib.
+# STAR_LIB_DIR names the folder of libstar.a, by default crates/star/out, where rt lib
+# leaves it.
 
 for tool in cargo valgrind callgrind_annotate objdump timeout awk; do
     command -v "$tool" > /dev/null || { echo "$0: $tool is absent" >&2; exit 1; }
 done
 here=$(cd "$(dirname "$0")" && pwd)
-folder=${STAR_LIB_DIR:-$here/../target/staticlib}
+folder=${STAR_LIB_DIR:-$here/../crates/star/out}
 [ -f "$folder/libstar.a" ] || { echo "$0: no archive at $folder/libstar.a" >&2; exit 1; }
 STAR_LIB_DIR=$(cd "$folder" && pwd)
 export STAR_LIB_DIR

@@ -1,5 +1,5 @@
 //! Links the archive libstar.a. Its folder is STAR_LIB_DIR, by default
-//! ../target/staticlib; a relative folder counts from this package.
+//! ../crates/star/out; a relative folder counts from this package.
 
 use std::path::PathBuf;
 use std::{env, process};
@@ -10,7 +10,7 @@ fn main() {
         PathBuf::from(env::var_os("CARGO_MANIFEST_DIR").expect("cargo names the package"));
     let folder = match env::var_os("STAR_LIB_DIR") {
         Some(folder) if !folder.is_empty() => package.join(folder),
-        _ => package.join("../target/staticlib"),
+        _ => package.join("../crates/star/out"),
     };
     let archive = folder.join("libstar.a");
     println!("cargo:rerun-if-changed={}", archive.display());

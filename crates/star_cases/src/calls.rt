@@ -5,11 +5,13 @@ use star_find::{Counts, Found};
 use star_show::table::FILLED;
 use star_show::{float, kept, print, words};
 use star_write::Written;
+use std::io;
 
 // Reads a file of a layout and prints what came out.
-pub fn read(file: &[u8], layout: u32, kept: &mut [u32]) {
-    print::bar();
-    kept::show(file, layout, kept);
+pub fn read(rt: &impl Print, file: &[u8], layout: u32, kept: &mut [u32]) -> io::Result<()> {
+    print::bar(rt)?;
+    kept::show(rt, file, layout, kept)?;
+    Ok(())
 }
 
 // Reads a file into tables of as many words as are lent, none of them 0 before, asks whether its names and codes fit, and keeps what is left.
@@ -40,24 +42,25 @@ fn check(file: &[u8], kept: &mut [u32]) -> Checked {
 }
 
 // Asks whether the names and codes of a file fit and prints what came out.
-pub fn fits(file: &[u8], kept: &mut [u32]) {
+pub fn fits(rt: &impl Print, file: &[u8], kept: &mut [u32]) -> io::Result<()> {
     let checked = check(file, kept);
-    print::bar();
-    print::three(checked.refusal, checked.place, checked.yes);
-    kept::print_kept(checked.refusal, kept);
+    print::bar(rt)?;
+    print::three(rt, checked.refusal, checked.place, checked.yes)?;
+    kept::print_kept(rt, checked.refusal, kept)
 }
 
 // Writes the plain form of a file into so many bytes and prints what came out.
-pub fn write(file: &[u8], size: u32) {
+pub fn write(rt: &impl Print, file: &[u8], size: u32) -> io::Result<()> {
     let mut out = words::room();
     let written = plain::write(file, words::lend(&mut out, size));
-    print::bar();
+    print::bar(rt)?;
     print::form(
+        rt,
         written.refusal,
         written.place,
         written.length,
         words::first(&out, size),
-    );
+    )
 }
 
 // Keeps the counts of what was written.
@@ -73,15 +76,22 @@ fn keep_counts(kept: &mut [u32], written: Written) {
 }
 
 // Prints what was written into so many bytes, and what is kept of the tables.
-fn print_written(written: Written, out: &[u8], size: u32, kept: &[u32]) {
-    print::bar();
+fn print_written(
+    rt: &impl Print,
+    written: Written,
+    out: &[u8],
+    size: u32,
+    kept: &[u32],
+) -> io::Result<()> {
+    print::bar(rt)?;
     print::form(
+        rt,
         written.refusal,
         written.place,
         written.length,
         words::first(out, size),
-    );
-    kept::print_kept(written.refusal, kept);
+    )?;
+    kept::print_kept(rt, written.refusal, kept)
 }
 
 // Reads a file of a layout into tables of as many words as are lent, none of them 0 before, writes its plain form in the other layout, and keeps what is left of the tables.
@@ -107,7 +117,7 @@ fn convert(file: &[u8], layout: u32, kept: &mut [u32], out: &mut [u8]) -> Writte
 }
 
 // Converts a file of the layout that is given into so many bytes and prints what came out.
-pub fn turn(given: &[u8], file: &[u8], kept: &mut [u32]) {
+pub fn turn(rt: &impl Print, given: &[u8], file: &[u8], kept: &mut [u32]) -> io::Result<()> {
     let size = words::number(words::rest(given));
     let mut out = words::room();
     let written = convert(
@@ -116,7 +126,7 @@ pub fn turn(given: &[u8], file: &[u8], kept: &mut [u32]) {
         kept,
         words::lend(&mut out, size),
     );
-    print_written(written, &out, size, kept);
+    print_written(rt, written, &out, size, kept)
 }
 
 // Reads an old file into tables of as many words as are lent, none of them 0 before, writes its plain form without header stops, and keeps what is left of the tables.
@@ -141,10 +151,10 @@ fn drop_stops(file: &[u8], kept: &mut [u32], out: &mut [u8]) -> Written {
 }
 
 // Drops the header stops of an old file into so many bytes and prints what came out.
-pub fn drop(file: &[u8], size: u32, kept: &mut [u32]) {
+pub fn drop(rt: &impl Print, file: &[u8], size: u32, kept: &mut [u32]) -> io::Result<()> {
     let mut out = words::room();
     let written = drop_stops(file, kept, words::lend(&mut out, size));
-    print_written(written, &out, size, kept);
+    print_written(rt, written, &out, size, kept)
 }
 
 // The five counts, as lookup takes them.
@@ -159,13 +169,14 @@ pub fn counts(kept: &[u32]) -> Counts {
 }
 
 // Prints what a lookup found.
-pub fn print_found(found: Found) {
-    print::bar();
-    print::two(found.refusal, found.row);
+pub fn print_found(rt: &impl Print, found: Found) -> io::Result<()> {
+    print::bar(rt)?;
+    print::two(rt, found.refusal, found.row)
 }
 
 // Looks a value up and prints refusal, kind, packet and part.
 fn look_at_value<'a, 'b>(
+    rt: &impl Print,
     file: &'a [u8],
     tokens: &'b [u32],
     sets: &'b [u32],
@@ -175,17 +186,18 @@ fn look_at_value<'a, 'b>(
     counts: Counts,
     name: u32,
     k: u32,
-) {
+) -> io::Result<()> {
     let value = star_value::value_at(file, tokens, sets, names, packets, values, counts, name, k);
-    print::bar();
-    print::three(value.refusal, value.kind, value.packet);
-    print::bar();
+    print::bar(rt)?;
+    print::three(rt, value.refusal, value.kind, value.packet)?;
+    print::bar(rt)?;
     let part = star_value::value_part(file, tokens, sets, names, packets, values, counts, name, k);
-    print::escaped(part, part.len());
+    print::escaped(rt, part, part.len())
 }
 
 // Looks up the data block, the frame and the name with these bytes and prints what was found.
 fn look_for<'a, 'b>(
+    rt: &impl Print,
     file: &'a [u8],
     tokens: &'b [u32],
     sets: &'b [u32],
@@ -195,18 +207,27 @@ fn look_for<'a, 'b>(
     counts: Counts,
     set: u32,
     bytes: &[u8],
-) {
-    print_found(star_find::find_block(file, tokens, sets, names, packets, values, counts, bytes));
-    print_found(star_find::find_frame(
-        file, tokens, sets, names, packets, values, counts, set, bytes,
-    ));
-    print_found(star_find::find_name(
-        file, tokens, sets, names, packets, values, counts, set, bytes,
-    ));
+) -> io::Result<()> {
+    print_found(
+        rt,
+        star_find::find_block(file, tokens, sets, names, packets, values, counts, bytes),
+    )?;
+    print_found(
+        rt,
+        star_find::find_frame(
+            file, tokens, sets, names, packets, values, counts, set, bytes,
+        ),
+    )?;
+    print_found(
+        rt,
+        star_find::find_name(
+            file, tokens, sets, names, packets, values, counts, set, bytes,
+        ),
+    )
 }
 
 // Looks up what a line asks for in the tables that are lent.
-pub fn look(given: &[u8], file: &[u8], kept: &[u32]) {
+pub fn look(rt: &impl Print, given: &[u8], file: &[u8], kept: &[u32]) -> io::Result<()> {
     let tokens = kept::lent(kept, 1);
     let sets = kept::lent(kept, 2);
     let names = kept::lent(kept, 3);
@@ -216,6 +237,7 @@ pub fn look(given: &[u8], file: &[u8], kept: &[u32]) {
     let name = words::rest(given);
     let k = words::rest(name);
     look_for(
+        rt,
         file,
         tokens,
         sets,
@@ -225,8 +247,9 @@ pub fn look(given: &[u8], file: &[u8], kept: &[u32]) {
         counts,
         words::number(given),
         words::rest(k),
-    );
+    )?;
     look_at_value(
+        rt,
         file,
         tokens,
         sets,
@@ -236,39 +259,39 @@ pub fn look(given: &[u8], file: &[u8], kept: &[u32]) {
         counts,
         words::number(name),
         words::number(k),
-    );
+    )
 }
 
 // Compares two contents and prints what came out.
-pub fn pairs(a: &[u8], b: &[u8]) {
+pub fn pairs(rt: &impl Print, a: &[u8], b: &[u8]) -> io::Result<()> {
     let compared = star_text::compare(a, b);
-    print::bar();
+    print::bar(rt)?;
     if compared.equal {
-        print::text(b"1 ");
+        print::text(rt, b"1 ")?;
     } else {
-        print::text(b"0 ");
+        print::text(rt, b"0 ")?;
     }
-    print::number(compared.pairs);
+    print::number(rt, compared.pairs)
 }
 
 // Prints the form of a number, and its floats by their bits.
-fn print_number(form: u32, value: f64, uncertainty: f64) {
-    print::rows(&[form], 1, 1);
-    print::text(b" ");
-    float::show(value);
-    print::text(b" ");
-    float::show(uncertainty);
+fn print_number(rt: &impl Print, form: u32, value: f64, uncertainty: f64) -> io::Result<()> {
+    print::rows(rt, &[form], 1, 1)?;
+    print::text(rt, b" ")?;
+    float::show(rt, value)?;
+    print::text(rt, b" ")?;
+    float::show(rt, uncertainty)
 }
 
 // Takes a content of a kind as a number and prints what came out.
-pub fn number(given: &[u8], content: &[u8]) {
+pub fn number(rt: &impl Print, given: &[u8], content: &[u8]) -> io::Result<()> {
     let number = star_number::form_of(star_number::number_of(words::number(given), content));
-    print::bar();
-    print_number(number.form, number.value, number.uncertainty);
+    print::bar(rt)?;
+    print_number(rt, number.form, number.value, number.uncertainty)
 }
 
 // Looks a value up as a number in the tables that are lent and prints refusal and number.
-pub fn value(given: &[u8], file: &[u8], kept: &[u32]) {
+pub fn value(rt: &impl Print, given: &[u8], file: &[u8], kept: &[u32]) -> io::Result<()> {
     let number = star_value_number::value_form(star_value_number::value_number(
         file,
         kept::lent(kept, 1),
@@ -280,8 +303,8 @@ pub fn value(given: &[u8], file: &[u8], kept: &[u32]) {
         words::number(given),
         words::number(words::rest(given)),
     ));
-    print::bar();
-    print::rows(&[number.refusal], 1, 1);
-    print::text(b" ");
-    print_number(number.form, number.value, number.uncertainty);
+    print::bar(rt)?;
+    print::rows(rt, &[number.refusal], 1, 1)?;
+    print::text(rt, b" ")?;
+    print_number(rt, number.form, number.value, number.uncertainty)
 }

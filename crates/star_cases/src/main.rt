@@ -26,113 +26,127 @@ mod index;
 mod plain;
 
 use star_show::{kept, notation, print, split, words};
+use std::io;
 
 // Writes the plain form of a file whose reading is kept, if it was accepted.
-fn write(file: &[u8], kept: &[u32], refusal: u32) {
-    if refusal == 0 {
-        print::text(b"\n  plain ");
-        plain::run(file, kept);
+fn write(rt: &impl Print, file: &[u8], kept: &[u32], refusal: u32) -> io::Result<()> {
+    if refusal != 0 {
+        return Ok(());
     }
+    print::text(rt, b"\n  plain ")?;
+    plain::run(rt, file, kept)
 }
 
 // Reads a file, and writes the plain form of an accepted one.
-fn read_and_write(file: &[u8]) {
+fn read_and_write(rt: &impl Print, file: &[u8]) -> io::Result<()> {
     let mut kept = kept::room();
-    let refusal = kept::show(file, 0, &mut kept);
-    write(file, &kept, refusal);
+    let refusal = kept::show(rt, file, 0, &mut kept)?;
+    write(rt, file, &kept, refusal)
 }
 
 // Runs a file through the split, reading and writing.
-fn run_file(file: &[u8]) {
-    print::bar();
-    split::run(file);
-    print::text(b"\n  read ");
-    read_and_write(file);
+fn run_file(rt: &impl Print, file: &[u8]) -> io::Result<()> {
+    print::bar(rt)?;
+    split::run(rt, file)?;
+    print::text(rt, b"\n  read ")?;
+    read_and_write(rt, file)
 }
 
 // Runs the first bytes of a long file, so many.
-fn run_first(file: &mut [u8; 1048577], size: u32) {
+fn run_first(rt: &impl Print, file: &mut [u8; 1048577], size: u32) -> io::Result<()> {
     notation::unescape(b"data_a _x ", file);
-    run_file(words::first(file, size));
+    run_file(rt, words::first(file, size))
 }
 
 // Runs a long file of so many bytes.
-fn run_long(size: u32) {
+fn run_long(rt: &impl Print, size: u32) -> io::Result<()> {
     let mut file = [b'v'; 1048577];
-    run_first(&mut file, size);
+    run_first(rt, &mut file, size)
 }
 
 // Compares the first word and what follows it.
-fn run_pairs(given: &[u8]) {
+fn run_pairs(rt: &impl Print, given: &[u8]) -> io::Result<()> {
     let mut a = words::room();
     let a_size = notation::unescape(words::word(given), &mut a);
     let mut b = words::room();
     let b_size = notation::unescape(words::rest(given), &mut b);
-    calls::pairs(words::first(&a, a_size), words::first(&b, b_size));
+    calls::pairs(rt, words::first(&a, a_size), words::first(&b, b_size))
 }
 
 // Takes what follows a kind as the content of a value.
-fn run_number(given: &[u8]) {
+fn run_number(rt: &impl Print, given: &[u8]) -> io::Result<()> {
     let mut content = words::room();
     let size = notation::unescape(words::rest(given), &mut content);
-    calls::number(given, words::first(&content, size));
+    calls::number(rt, given, words::first(&content, size))
 }
 
 // Takes the hash of what is given.
-fn run_hash(given: &[u8]) {
+fn run_hash(rt: &impl Print, given: &[u8]) -> io::Result<()> {
     let mut bytes = words::room();
     let size = notation::unescape(given, &mut bytes);
-    index::hash(words::first(&bytes, size));
+    index::hash(rt, words::first(&bytes, size))
 }
 
 // Does what a line says with what it is given, over the last file.
-fn run_on(line: &[u8], given: &[u8], file: &[u8], kept: &mut [u32]) {
+fn run_on(
+    rt: &impl Print,
+    line: &[u8],
+    given: &[u8],
+    file: &[u8],
+    kept: &mut [u32],
+) -> io::Result<()> {
     match words::byte(line, 0) {
-        b'c' => run_file(file),
-        b'1' => run_long(words::number(line)),
-        b'r' => calls::read(file, 0, kept),
-        b'o' => calls::read(file, words::number(given), kept),
-        b't' => calls::turn(given, file, kept),
-        b'd' => calls::drop(file, words::number(given), kept),
-        b'f' => calls::fits(file, kept),
-        b'w' => calls::write(file, words::number(given)),
-        b's' => kept::set(given, kept),
-        b'l' => calls::look(given, file, kept),
-        b'p' => run_pairs(given),
-        b'n' => run_number(given),
-        b'v' => calls::value(given, file, kept),
-        b'b' => index::build(file, words::number(given), kept),
-        b'i' => index::check(given, file, kept),
-        b'a' => index::ask(given, file, kept),
-        b'h' => run_hash(given),
-        _ => {}
+        b'c' => run_file(rt, file),
+        b'1' => run_long(rt, words::number(line)),
+        b'r' => calls::read(rt, file, 0, kept),
+        b'o' => calls::read(rt, file, words::number(given), kept),
+        b't' => calls::turn(rt, given, file, kept),
+        b'd' => calls::drop(rt, file, words::number(given), kept),
+        b'f' => calls::fits(rt, file, kept),
+        b'w' => calls::write(rt, file, words::number(given)),
+        b's' => {
+            kept::set(given, kept);
+            Ok(())
+        }
+        b'l' => calls::look(rt, given, file, kept),
+        b'p' => run_pairs(rt, given),
+        b'n' => run_number(rt, given),
+        b'v' => calls::value(rt, given, file, kept),
+        b'b' => index::build(rt, file, words::number(given), kept),
+        b'i' => index::check(rt, given, file, kept),
+        b'a' => index::ask(rt, given, file, kept),
+        b'h' => run_hash(rt, given),
+        _ => Ok(()),
     }
 }
 
 // Does what a line says over the file of the last line that has one, and prints the line and what came out.
-fn run_line(line: &[u8], last: &[u8], kept: &mut [u32]) {
+fn run_line(rt: &impl Print, line: &[u8], last: &[u8], kept: &mut [u32]) -> io::Result<()> {
     let mut file = words::room();
     let size = notation::unescape(words::rest(last), &mut file);
-    words::show(line);
-    run_on(line, words::rest(line), words::first(&file, size), kept);
-    print::text(b"\n");
+    words::show(rt, line)?;
+    run_on(rt, line, words::rest(line), words::first(&file, size), kept)?;
+    print::text(rt, b"\n")
 }
 
 // Runs each line.
-fn run_lines(lines: &[u8], kept: &mut [u32]) {
-    let mut at = 0;
+fn run_lines(rt: &impl Print, lines: &[u8], kept: &mut [u32]) -> io::Result<()> {
+    let mut begins = true;
     let mut last = 0;
-    while at < lines.len() {
-        last = words::last_of(lines[at], at, last);
-        run_line(words::line(lines, at), words::line(lines, last), kept);
-        at = bytes::scan::find(lines, at, lines.len(), b'\n') + 1;
+    for (at, b) in lines.iter().enumerate() {
+        if begins {
+            last = words::last_of(*b, at, last);
+            run_line(rt, words::line(lines, at), words::line(lines, last), kept)?;
+        }
+        begins = *b == b'\n';
     }
+    Ok(())
 }
 
-// Runs each line of standard input.
-fn main() {
-    let mut lines = io::large_buffer();
-    let n = io::read_full(libc::STDIN_FILENO, &mut lines);
+// Runs each line of standard input, of as many bytes as there is room for.
+fn main(rt: HostRuntime) -> io::Result<()> {
+    let mut lines = [0; 65536];
+    let n = star_input::read_full(&mut rt.stdin(), &mut lines)?;
     let mut kept = kept::room();
-    run_lines(&lines[..n], &mut kept);
+    run_lines(&rt, &lines[..n], &mut kept)
 }

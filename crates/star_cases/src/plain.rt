@@ -2,6 +2,7 @@
 use star_show::table::FILLED;
 use star_show::{compare, print, words};
 use star_write::Written;
+use std::io;
 
 // Writes the plain form of a file, with tables that have room.
 pub fn write(file: &[u8], out: &mut [u8]) -> Written {
@@ -22,31 +23,33 @@ pub fn write(file: &[u8], out: &mut [u8]) -> Written {
 }
 
 // Writes a plain form again and compares the bytes.
-fn write_again(form: &[u8]) {
+fn write_again(rt: &impl Print, form: &[u8]) -> io::Result<()> {
     let mut out = words::room();
     let written = write(form, &mut out);
     let compared = star_text::compare(form, words::first(&out, written.length));
-    compare::say(compared.equal);
+    compare::say(rt, compared.equal)
 }
 
 // Reads a plain form and writes it again, if it was written.
-fn repeat(file: &[u8], kept: &[u32], form: &[u8], refusal: u32) {
-    if refusal == 0 {
-        print::text(b" | tables, tokens, bytes:");
-        compare::read_back(file, kept, form);
-        write_again(form);
+fn repeat(rt: &impl Print, file: &[u8], kept: &[u32], form: &[u8], refusal: u32) -> io::Result<()> {
+    if refusal != 0 {
+        return Ok(());
     }
+    print::text(rt, b" | tables, tokens, bytes:")?;
+    compare::read_back(rt, file, kept, form)?;
+    write_again(rt, form)
 }
 
 // Writes the plain form of a file whose reading is kept, prints it, reads it and writes it again.
-pub fn run(file: &[u8], kept: &[u32]) {
+pub fn run(rt: &impl Print, file: &[u8], kept: &[u32]) -> io::Result<()> {
     let mut out = words::room();
     let written = write(file, &mut out);
-    print::form(written.refusal, written.place, written.length, &out);
+    print::form(rt, written.refusal, written.place, written.length, &out)?;
     repeat(
+        rt,
         file,
         kept,
         words::first(&out, written.length),
         written.refusal,
-    );
+    )
 }

@@ -4,3 +4,4 @@ pub mod Lines
 pub mod Reading
 pub mod Fits
 pub mod Known
+pub mod Whole

@@ -1,18 +1,19 @@
 // A file and its plain form, compared.
 use crate::{kept, print, table};
+use std::io;
 
 // Says whether something is the same.
-pub fn say(same: bool) {
+pub fn say(rt: &impl Print, same: bool) -> io::Result<()> {
     if same {
-        print::text(b" same");
+        print::text(rt, b" same")
     } else {
-        print::text(b" OTHER");
+        print::text(rt, b" OTHER")
     }
 }
 
 // Whether the n-th tokens of two files have equal kinds and contents, n from 0.
 fn same_token(file: &[u8], rows: &[u32], form: &[u8], back: &[u32], n: u32) -> bool {
-    let row = std::num::wrapping_add_u32(n, 1);
+    let row = n.wrapping_add(1);
     if star_rows::word(rows, 3, row, 0) != star_rows::word(back, 3, row, 0) {
         return false;
     }
@@ -25,26 +26,36 @@ fn same_token(file: &[u8], rows: &[u32], form: &[u8], back: &[u32], n: u32) -> b
 
 // Whether two files have tokens of equal kinds and contents, one by one, in tables of 1,024 words.
 fn same_tokens(file: &[u8], rows: &[u32], form: &[u8], back: &[u32]) -> bool {
-    let mut n = 0;
-    while n < 341 {
+    for n in 0..341 {
         if !same_token(file, rows, form, back, n) {
             return false;
         }
-        n += 1;
     }
     true
 }
 
 // Compares the reading of a plain form, in `back`, with that of its file, in `kept`: tables 2 to 5 word for word, then kinds and contents of the
 // tokens.
-fn compare(file: &[u8], kept: &[u32], form: &[u8], back: &[u32]) {
-    say(table::same(table::part(kept, 2048, 4096), table::part(back, 2048, 4096)));
-    say(same_tokens(file, kept::lent(kept, 1), form, kept::lent(back, 1)));
+fn compare(
+    rt: &impl Print,
+    file: &[u8],
+    kept: &[u32],
+    form: &[u8],
+    back: &[u32],
+) -> io::Result<()> {
+    say(
+        rt,
+        table::same(table::part(kept, 2048, 4096), table::part(back, 2048, 4096)),
+    )?;
+    say(
+        rt,
+        same_tokens(file, kept::lent(kept, 1), form, kept::lent(back, 1)),
+    )
 }
 
 // Reads a plain form and compares with its file, whose reading is kept.
-pub fn read_back(file: &[u8], kept: &[u32], form: &[u8]) {
+pub fn read_back(rt: &impl Print, file: &[u8], kept: &[u32], form: &[u8]) -> io::Result<()> {
     let mut back = kept::room();
     kept::read(form, 0, &mut back);
-    compare(file, kept, form, &back);
+    compare(rt, file, kept, form, &back)
 }

@@ -5,6 +5,7 @@ ghost use Rattle.std.specs.Prelude.{◌≡◌, length};
 use crate::table::FILLED;
 use crate::{print, table, words};
 use star_read::Answer;
+use std::io;
 
 // Room for what is kept, with 1,024 words lent of each table.
 pub fn room() -> [u32; 7168]
@@ -20,7 +21,7 @@ pub fn word(kept: &[u32], i: u32) -> u32 {
 
 // How many words of a table are lent.
 fn lent_words(kept: &[u32], t: u32) -> usize {
-    word(kept, std::num::wrapping_add_u32(5, t)) as usize
+    word(kept, t.wrapping_add(5)) as usize
 }
 
 // The words of a table that are lent.
@@ -29,38 +30,38 @@ pub fn lent(kept: &[u32], t: u32) -> &[u32] {
 }
 
 // Prints the rows of a table of three words a row, and any word after them that is not 0.
-fn print_table(kept: &[u32], t: u32) {
-    print::rows(lent(kept, t), word(kept, t) as usize * 3, 3);
+fn print_table(rt: &impl Print, kept: &[u32], t: u32) -> io::Result<()> {
+    print::rows(rt, lent(kept, t), word(kept, t) as usize * 3, 3)
 }
 
 // The same of a table of four words a row.
-fn print_wide_table(kept: &[u32], t: u32) {
-    print::rows(lent(kept, t), word(kept, t) as usize * 4, 4);
+fn print_wide_table(rt: &impl Print, kept: &[u32], t: u32) -> io::Result<()> {
+    print::rows(rt, lent(kept, t), word(kept, t) as usize * 4, 4)
 }
 
 // Prints the tables, with these bytes between them.
-fn print_tables(kept: &[u32], between: &[u8]) {
-    print_table(kept, 1);
-    print::text(between);
-    print_table(kept, 2);
-    print::text(between);
-    print_wide_table(kept, 3);
-    print::text(between);
-    print_table(kept, 4);
-    print::text(between);
-    print_wide_table(kept, 5);
+fn print_tables(rt: &impl Print, kept: &[u32], between: &[u8]) -> io::Result<()> {
+    print_table(rt, kept, 1)?;
+    print::text(rt, between)?;
+    print_table(rt, kept, 2)?;
+    print::text(rt, between)?;
+    print_wide_table(rt, kept, 3)?;
+    print::text(rt, between)?;
+    print_table(rt, kept, 4)?;
+    print::text(rt, between)?;
+    print_wide_table(rt, kept, 5)
 }
 
 // Prints of an accepted file the counts and the rows of the five tables, and of a refused one any count or word that is not 0.
-pub fn print_kept(refusal: u32, kept: &[u32]) {
+pub fn print_kept(rt: &impl Print, refusal: u32, kept: &[u32]) -> io::Result<()> {
     if refusal == 0 {
-        print::bar();
-        print::rows(table::part(kept, 1, 5), 5, 5);
-        print::bar();
-        print_tables(kept, b" ; ");
+        print::bar(rt)?;
+        print::rows(rt, table::part(kept, 1, 5), 5, 5)?;
+        print::bar(rt)?;
+        print_tables(rt, kept, b" ; ")
     } else {
-        print::rows(table::part(kept, 1, 5), 0, 5);
-        print_tables(kept, b"");
+        print::rows(rt, table::part(kept, 1, 5), 0, 5)?;
+        print_tables(rt, kept, b"")
     }
 }
 
@@ -105,8 +106,8 @@ pub fn keep_slots(kept: &mut [u32], slots: &[u32], lent: u32) {
 }
 
 // Prints the slots that are lent.
-pub fn print_slots(kept: &[u32]) {
-    print::rows(lent(kept, 6), 1024, 1024);
+pub fn print_slots(rt: &impl Print, kept: &[u32]) -> io::Result<()> {
+    print::rows(rt, lent(kept, 6), 1024, 1024)
 }
 
 // Reads a file of a layout into tables of as many words as are lent, none of them 0 before, and keeps what is left.
@@ -138,11 +139,11 @@ pub(crate) fn read(file: &[u8], layout: u32, kept: &mut [u32]) -> Answer {
 }
 
 // Reads a file of a layout, prints what came out and answers its refusal.
-pub fn show(file: &[u8], layout: u32, kept: &mut [u32]) -> u32 {
+pub fn show(rt: &impl Print, file: &[u8], layout: u32, kept: &mut [u32]) -> io::Result<u32> {
     let answer = read(file, layout, kept);
-    print::two(answer.refusal, answer.place);
-    print_kept(answer.refusal, kept);
-    answer.refusal
+    print::two(rt, answer.refusal, answer.place)?;
+    print_kept(rt, answer.refusal, kept)?;
+    Ok(answer.refusal)
 }
 
 // Makes a word be another: its row, its place and what it is to be are given.

@@ -51,11 +51,14 @@ fn put(file: &mut [u8], at: u32, b: u8) {
 // Writes the file that a line stands for into `file`, as far as it fits, and answers how many bytes it has.
 pub fn unescape(line: &[u8], file: &mut [u8]) -> u32 {
     let mut at = 0;
-    let mut count = 0;
-    while at < line.len() {
+    let mut count: u32 = 0;
+    for _ in 0..line.len() {
+        if at >= line.len() {
+            break;
+        }
         let next = at + symbol_size(line, at);
         put(file, count, value(&line[at..next]));
-        count = std::num::wrapping_add_u32(count, 1);
+        count = count.wrapping_add(1);
         at = next;
     }
     count

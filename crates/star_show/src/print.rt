@@ -1,19 +1,19 @@
 // Lines of output.
-use libc::STDOUT_FILENO;
+use std::io;
 
 // Writes these bytes.
-pub fn text(bytes: &[u8]) {
-    io::write_all(STDOUT_FILENO, bytes);
+pub fn text(rt: &impl Print, bytes: &[u8]) -> io::Result<()> {
+    rt.write_all(bytes)
 }
 
 // Writes what parts an answer from what it answers.
-pub fn bar() {
-    text(b" | ");
+pub fn bar(rt: &impl Print) -> io::Result<()> {
+    text(rt, b" | ")
 }
 
 // Writes a number.
-pub fn number(n: usize) {
-    io::print_decimal(STDOUT_FILENO, n as u64);
+pub fn number(rt: &impl Print, n: usize) -> io::Result<()> {
+    rt.print(n)
 }
 
 // What stands before the word at a place of a table whose rows have so many words.
@@ -25,35 +25,32 @@ fn separator(at: usize, width: u32) -> u8 {
 }
 
 // Writes the word at a place of a table, if it is counted or not 0.
-fn cell(at: usize, word: u32, width: u32, counted: bool) {
-    if !counted {
-        if word == 0 {
-            return;
-        }
+fn cell(rt: &impl Print, at: usize, word: u32, width: u32, counted: bool) -> io::Result<()> {
+    if !counted && word == 0 {
+        return Ok(());
     }
     if at != 0 {
-        text(&[separator(at, width)]);
+        text(rt, &[separator(at, width)])?;
     }
-    io::print_decimal(STDOUT_FILENO, word as u64);
+    rt.print(word)
 }
 
 // Writes rows of so many words, parted by commas: the first words, as many as `size`, and any other that is not 0.
-pub fn rows(words: &[u32], size: usize, width: u32) {
-    let mut at = 0;
-    while at < words.len() {
-        cell(at, words[at], width, at < size);
-        at += 1;
+pub fn rows(rt: &impl Print, words: &[u32], size: usize, width: u32) -> io::Result<()> {
+    for (at, word) in words.iter().enumerate() {
+        cell(rt, at, *word, width, at < size)?;
     }
+    Ok(())
 }
 
 // Writes two numbers.
-pub fn two(a: u32, b: u32) {
-    rows(&[a, b], 2, 2);
+pub fn two(rt: &impl Print, a: u32, b: u32) -> io::Result<()> {
+    rows(rt, &[a, b], 2, 2)
 }
 
 // Writes three numbers.
-pub fn three(a: u32, b: u32, c: u32) {
-    rows(&[a, b, c], 3, 3);
+pub fn three(rt: &impl Print, a: u32, b: u32, c: u32) -> io::Result<()> {
+    rows(rt, &[a, b, c], 3, 3)
 }
 
 // The letter that stands for a byte after `\`, or 0.
@@ -70,31 +67,28 @@ fn letter(b: u8) -> u8 {
 }
 
 // Writes a byte in the notation of the input, if it is counted or not 0.
-fn symbol(b: u8, counted: bool) {
-    if !counted {
-        if b == 0 {
-            return;
-        }
+fn symbol(rt: &impl Print, b: u8, counted: bool) -> io::Result<()> {
+    if !counted && b == 0 {
+        return Ok(());
     }
     if letter(b) == 0 {
-        text(&[b]);
+        text(rt, &[b])
     } else {
-        text(&[b'\\', letter(b)]);
+        text(rt, &[b'\\', letter(b)])
     }
 }
 
 // Writes bytes in the notation of the input: the first, as many as `size`, and any other that is not 0.
-pub fn escaped(bytes: &[u8], size: usize) {
-    let mut at = 0;
-    while at < bytes.len() {
-        symbol(bytes[at], at < size);
-        at += 1;
+pub fn escaped(rt: &impl Print, bytes: &[u8], size: usize) -> io::Result<()> {
+    for (at, b) in bytes.iter().enumerate() {
+        symbol(rt, *b, at < size)?;
     }
+    Ok(())
 }
 
 // Writes refusal, place and length of a plain form, and the plain form.
-pub fn form(refusal: u32, place: u32, length: u32, out: &[u8]) {
-    three(refusal, place, length);
-    bar();
-    escaped(out, length as usize);
+pub fn form(rt: &impl Print, refusal: u32, place: u32, length: u32, out: &[u8]) -> io::Result<()> {
+    three(rt, refusal, place, length)?;
+    bar(rt)?;
+    escaped(rt, out, length as usize)
 }

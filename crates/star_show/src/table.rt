@@ -21,28 +21,16 @@ pub fn part(table: &[u32], from: usize, size: usize) -> &[u32] {
 // Copies words to a table from a place on, as far as it has room.
 pub fn copy(table: &mut [u32], from: usize, words: &[u32]) {
     let mut at = from;
-    let mut i = 0;
-    while i < words.len() {
+    for word in words {
         if table.len() <= at {
             return;
         }
-        table[at] = words[i];
+        table[at] = *word;
         at += 1;
-        i += 1;
     }
 }
 
 // Whether the words of a table are those of another.
 pub fn same(a: &[u32], b: &[u32]) -> bool {
-    if a.len() != b.len() {
-        return false;
-    }
-    let mut at = 0;
-    while at < a.len() {
-        if a[at] != b[at] {
-            return false;
-        }
-        at += 1;
-    }
-    true
+    a == b
 }

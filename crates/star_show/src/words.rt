@@ -2,6 +2,7 @@
 ghost use Rattle.std.specs.Prelude.{◌≡◌, ◌≤◌, length};
 
 use crate::{notation, print, table};
+use std::io;
 
 // Room for a file of a line, or for its plain form, with bytes that are not 0.
 pub fn room() -> [u8; 8192]
@@ -27,18 +28,26 @@ pub fn byte(bytes: &[u8], at: usize) -> u8 {
     if at < bytes.len() { bytes[at] } else { 0 }
 }
 
+// How many bytes stand before the first that is this one: all of them where there is none.
+fn before(bytes: &[u8], byte: u8) -> usize
+    ensures { result ≤ length bytes.now }
+{
+    bytes.iter().position(|b| *b == byte).unwrap_or(bytes.len())
+}
+
 // How many bytes stand before the first blank: all of them where there is none.
 fn before_blank(line: &[u8]) -> usize
     ensures { result ≤ length line.now }
 {
-    bytes::scan::find(line, 0, line.len(), b' ')
+    before(line, b' ')
 }
 
 // The line that begins at a place.
 pub fn line(lines: &[u8], from: usize) -> &[u8] {
     let start = table::least(from, lines.len());
-    let end = bytes::scan::find(lines, start, lines.len(), b'\n');
-    &lines[start..end]
+    let left = &lines[start..];
+    let end = before(left, b'\n');
+    &left[..end]
 }
 
 // The first word of a line.
@@ -68,12 +77,9 @@ fn with_digit(n: u32, b: u8) -> u32 {
 
 // The number that the first word of a line stands for.
 pub fn number(line: &[u8]) -> u32 {
-    let end = before_blank(line);
     let mut n: u32 = 0;
-    let mut at = 0;
-    while at < end {
-        n = with_digit(n, line[at]);
-        at += 1;
+    for b in word(line) {
+        n = with_digit(n, *b);
     }
     n
 }
@@ -85,22 +91,25 @@ fn put(table: &mut [u32], at: u32, n: u32) {
 
 // Writes the numbers that the words of a line stand for to a table, as far as it has room, and answers how many there are.
 pub fn numbers(line: &[u8], table: &mut [u32]) -> u32 {
-    let mut at = 0;
-    let mut count = 0;
-    while at < line.len() {
-        put(table, count, number(&line[at..]));
-        count = std::num::wrapping_add_u32(count, 1);
-        at = bytes::scan::find(line, at, line.len(), b' ') + 1;
+    let mut left = line;
+    let mut count: u32 = 0;
+    for _ in 0..line.len() {
+        if left.is_empty() {
+            break;
+        }
+        put(table, count, number(left));
+        count = count.wrapping_add(1);
+        left = rest(left);
     }
     count
 }
 
 // Prints a line, but of a case its file alone.
-pub fn show(line: &[u8]) {
+pub fn show(rt: &impl Print, line: &[u8]) -> io::Result<()> {
     if byte(line, 0) == b'c' {
-        print::text(rest(line));
+        print::text(rt, rest(line))
     } else {
-        print::text(line);
+        print::text(rt, line)
     }
 }
 
