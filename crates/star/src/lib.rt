@@ -17,9 +17,10 @@ ghost use Rattle.star_convert.specs.Convert.{Converts};
 ghost use Rattle.star_check.specs.Fits.{FitsChecked};
 
 use star_check::Checked;
-use star_find::{Counts, Found};
+use star_find::{Found, Lent};
 use star_number::Form;
 use star_read::Answer;
+use star_rows::{Counts, Tables};
 use star_text::Comparison;
 use star_value::{Span, Value};
 use star_value_number::ValueForm;
@@ -41,7 +42,14 @@ pub extern "C" fn star_read(
         (tables tokens.old sets.old names.old packets.old values.old)
         (tables tokens.new sets.new names.new packets.new values.new) result }
 {
-    star_read::read_layout(file, layout, tokens, sets, names, packets, values)
+    let mut tables = Tables {
+        tokens,
+        sets,
+        names,
+        packets,
+        values,
+    };
+    Answer::from(star_read::read_layout(file, layout, &mut tables))
 }
 
 // The first data block with this code.
@@ -59,7 +67,16 @@ pub extern "C" fn star_find_block(
     ensures { result ≡ find_block (lent file.now tokens.now sets.now names.now packets.now
         values.now) counts code.now }
 {
-    star_find::find_block(file, tokens, sets, names, packets, values, counts, code)
+    let lent = Lent {
+        file,
+        tokens,
+        sets,
+        names,
+        packets,
+        values,
+        counts,
+    };
+    Found::from(lent.find_block(code))
 }
 
 // The first frame of a set with this code.
@@ -78,9 +95,16 @@ pub extern "C" fn star_find_frame(
     ensures { result ≡ find_frame (lent file.now tokens.now sets.now names.now packets.now
         values.now) counts set code.now }
 {
-    star_find::find_frame(
-        file, tokens, sets, names, packets, values, counts, set, code,
-    )
+    let lent = Lent {
+        file,
+        tokens,
+        sets,
+        names,
+        packets,
+        values,
+        counts,
+    };
+    Found::from(lent.find_frame(set, code))
 }
 
 // The first name of a set with these bytes or, for a data block, of the nearest earlier global block that does not answer 13.
@@ -99,9 +123,16 @@ pub extern "C" fn star_find_name(
     ensures { result ≡ find_name (lent file.now tokens.now sets.now names.now packets.now
         values.now) counts set name.now }
 {
-    star_find::find_name(
-        file, tokens, sets, names, packets, values, counts, set, name,
-    )
+    let lent = Lent {
+        file,
+        tokens,
+        sets,
+        names,
+        packets,
+        values,
+        counts,
+    };
+    Found::from(lent.find_name(set, name))
 }
 
 // Compares two names or codes as reading and the lookups of a block, a frame and a name do: whether they are equal, and how many pairs of bytes were compared.
@@ -128,7 +159,16 @@ pub extern "C" fn star_value_at(
     ensures { result ≡ value_at (lent file.now tokens.now sets.now names.now packets.now
         values.now) counts name k }
 {
-    star_value::value_at(file, tokens, sets, names, packets, values, counts, name, k)
+    let lent = Lent {
+        file,
+        tokens,
+        sets,
+        names,
+        packets,
+        values,
+        counts,
+    };
+    Value::from(star_value::value_at(&lent, name, k))
 }
 
 // Where the k-th value of a name row, k from 1, lies in the file; 0 and 0 where it is refused.
@@ -147,7 +187,16 @@ pub extern "C" fn star_value_part(
     ensures { result ≡ value_span (lent file.now tokens.now sets.now names.now packets.now
         values.now) counts name k }
 {
-    star_value::value_span(file, tokens, sets, names, packets, values, counts, name, k)
+    let lent = Lent {
+        file,
+        tokens,
+        sets,
+        names,
+        packets,
+        values,
+        counts,
+    };
+    star_value::value_span(&lent, name, k)
 }
 
 // What a value of this kind and content is as a number.
@@ -155,7 +204,7 @@ pub extern "C" fn star_value_part(
 pub extern "C" fn star_number_of(kind: u32, content: &[u8]) -> Form
     ensures { result ≡ form_of (number_in kind content.now) }
 {
-    star_number::form_of(star_number::number_of(kind, content))
+    Form::from(star_number::number_of(kind, content))
 }
 
 // What the k-th value of a name row, k from 1, is as a number; form 0 where it is refused.
@@ -174,10 +223,16 @@ pub extern "C" fn star_value_number(
     ensures { result ≡ value_form_of (value_number (lent file.now tokens.now sets.now names.now packets.now
         values.now) counts name k) }
 {
-    let found = star_value_number::value_number(
-        file, tokens, sets, names, packets, values, counts, name, k,
-    );
-    star_value_number::value_form(found)
+    let lent = Lent {
+        file,
+        tokens,
+        sets,
+        names,
+        packets,
+        values,
+        counts,
+    };
+    ValueForm::from(star_value_number::value_number(&lent, name, k))
 }
 
 // Reads a file into the five tables and writes its plain form. On a refusal length, counts, tables and output are all 0.
@@ -196,7 +251,14 @@ pub extern "C" fn star_write(
         (tables tokens.new sets.new names.new packets.new values.new)
         out.old out.new result }
 {
-    star_write::write(file, tokens, sets, names, packets, values, out)
+    let mut tables = Tables {
+        tokens,
+        sets,
+        names,
+        packets,
+        values,
+    };
+    Written::from(star_write::write(file, &mut tables, out))
 }
 
 // Reads a file of a layout into the five tables and writes its plain form in the other: layout 0 is today's, 1 that of 1991, and any other number is refused before all else. On a refusal
@@ -217,7 +279,14 @@ pub extern "C" fn star_convert(
         (tables tokens.new sets.new names.new packets.new values.new)
         out.old out.new result }
 {
-    star_convert::convert(file, layout, tokens, sets, names, packets, values, out)
+    let mut tables = Tables {
+        tokens,
+        sets,
+        names,
+        packets,
+        values,
+    };
+    Written::from(star_convert::convert(file, layout, &mut tables, out))
 }
 
 // Reads an old file, whose loops may have header stops, into the five tables and writes its plain form without the header stops. On a refusal length, counts, tables and output are all 0.
@@ -236,7 +305,14 @@ pub extern "C" fn star_drop_header_stops(
         (tables tokens.new sets.new names.new packets.new values.new)
         out.old out.new result }
 {
-    star_write::drop_header_stops(file, tokens, sets, names, packets, values, out)
+    let mut tables = Tables {
+        tokens,
+        sets,
+        names,
+        packets,
+        values,
+    };
+    Written::from(star_write::drop_header_stops(file, &mut tables, out))
 }
 
 // Reads a file into the five tables and answers whether every name and code has at most 32 bytes. After yes or no the tables hold the reading; on a refusal yes, counts and
@@ -254,7 +330,14 @@ pub extern "C" fn star_fits_32(
         (tables tokens.old sets.old names.old packets.old values.old)
         (tables tokens.new sets.new names.new packets.new values.new) result }
 {
-    star_check::fits_32(file, tokens, sets, names, packets, values)
+    let mut tables = Tables {
+        tokens,
+        sets,
+        names,
+        packets,
+        values,
+    };
+    Checked::from(star_check::fits_32(file, &mut tables))
 }
 
 // Reads a file into the five tables and builds an index of its names in the slots. On a refusal counts, tables and slots are all 0.
@@ -273,7 +356,14 @@ pub extern "C" fn star_index_build(
         (tables tokens.new sets.new names.new packets.new values.new)
         slots.old slots.new result }
 {
-    star_build::build(file, tokens, sets, names, packets, values, slots)
+    let mut tables = Tables {
+        tokens,
+        sets,
+        names,
+        packets,
+        values,
+    };
+    Answer::from(star_build::build(file, &mut tables, slots))
 }
 
 // Reads a file into the five tables and checks that the slots are an index of its names. On a refusal counts and tables are all 0; the slots are not written.
@@ -291,7 +381,14 @@ pub extern "C" fn star_index_check(
         (tables tokens.old sets.old names.old packets.old values.old)
         (tables tokens.new sets.new names.new packets.new values.new) result }
 {
-    star_index::check(file, tokens, sets, names, packets, values, slots)
+    let mut tables = Tables {
+        tokens,
+        sets,
+        names,
+        packets,
+        values,
+    };
+    Answer::from(star_index::check(file, &mut tables, slots))
 }
 
 // The name of a set with these bytes, through the slots, or for a data block one of the nearest earlier global block that does not answer 13.
@@ -311,7 +408,14 @@ pub extern "C" fn star_index_find(
     ensures { result ≡ find_slot (lent file.now tokens.now sets.now names.now packets.now
         values.now) counts slots.now set name.now }
 {
-    star_slots::find(
-        file, tokens, sets, names, packets, values, counts, slots, set, name,
-    )
+    let lent = Lent {
+        file,
+        tokens,
+        sets,
+        names,
+        packets,
+        values,
+        counts,
+    };
+    Found::from(star_slots::find(&lent, slots, set, name))
 }

@@ -16,7 +16,7 @@ use Rattle.star_read.specs.Answer.{read_answer, reading_of, tables_of}
 use Rattle.star_read.proofs.Demand1.{refused-numbered, accepted-has}
 use Rattle.star_find.specs.Find.{Lent, content_at, is_wanted, row_there, refused as find_refused}
 use Rattle.star_find.specs.Demands.{RowAnswer}
-use Rattle.star_find.specs.declared.Counts.{Counts}
+use Rattle.star_rows.specs.declared.Counts.{Counts}
 use Rattle.star_find.proofs.Demand1.{answer-cond, outside, meet-answers, on-answers}
 use Rattle.star_hash.specs.Hash.{home_of}
 use Rattle.star_slots.specs.Slots.{slot_at, next_slot}

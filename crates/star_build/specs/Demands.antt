@@ -9,7 +9,7 @@ use Rattle.star_read.specs.Demands.{Numbered, HasReading}
 use Rattle.star_read.specs.declared.Answer.{Answer}
 use Rattle.star_find.specs.Find.{Lent}
 use Rattle.star_find.specs.Demands.{RowAnswer}
-use Rattle.star_find.specs.declared.Counts.{Counts}
+use Rattle.star_rows.specs.declared.Counts.{Counts}
 use Rattle.star_slots.specs.Lookup.{find_slot}
 use Rattle.star_index.specs.Index.{check_of}
 use Rattle.star_build.specs.Build.{build_of, slots_of}

@@ -2,11 +2,14 @@
 #![tactic(auto)]
 
 ghost use Rattle.std.specs.Prelude.{◌≡◌, ◌<◌, length};
-ghost use Rattle.star_read.specs.Answer.{tables};
+ghost use Rattle.star_rows.specs.Tables.{Same};
+ghost use Rattle.star_read.specs.Answer.{held, answer_of};
 ghost use Rattle.star_slots.specs.Inner.{table_home};
 ghost use Rattle.star_build.specs.Build.{first_free, filled, Builds};
 
-use star_read::Answer;
+use star_find::Contents;
+use star_rows::{Counts, Tables};
+use star_text::refusal::{Reason, Refusal};
 
 // The first slot that holds 0, from a home on round once.
 fn free_from(slots: &[u32], home: usize) -> usize
@@ -35,36 +38,30 @@ fn fill(file: &[u8], tokens: &[u32], count: u32, names: &[u32], rows: u32, slots
     let mut row: u32 = 0;
     while row < rows {
         row += 1;
-        let home = star_slots::home_at(file, tokens, count, names, slots.len(), row);
+        let contents = Contents {
+            file,
+            tokens,
+            count,
+        };
+        let home = star_slots::home_at(&contents, names, slots.len(), row);
         let at = free_from(slots, home);
         slots[at] = row;
     }
 }
 
 // Reads a file into the five tables and builds an index of its names in the slots: refusal 7 with place 8 where slots are not more than names. On a refusal
-// the counts, every word of every table and every slot are 0.
-pub fn build(
-    file: &[u8],
-    tokens: &mut [u32],
-    sets: &mut [u32],
-    names: &mut [u32],
-    packets: &mut [u32],
-    values: &mut [u32],
-    slots: &mut [u32],
-) -> Answer
-    ensures { Builds file.now
-        (tables tokens.old sets.old names.old packets.old values.old)
-        (tables tokens.new sets.new names.new packets.new values.new)
-        slots.old slots.new result }
+// every word of every table and every slot are 0.
+pub fn build(file: &[u8], tables: &mut Tables, slots: &mut [u32]) -> Result<Counts, Refusal>
+    ensures builds { Builds file.now (held tables.old) (held tables.new) slots.old slots.new (answer_of result) }
+    ensures same { Same tables.old tables.new }
 {
-    star_rows::clear_from(slots, 0);
-    let reading = star_read::read(file, tokens, sets, names, packets, values);
-    if reading.refusal != 0 {
-        return reading;
+    slots.fill(0);
+    let counts = star_read::read(file, tables)?;
+    if slots.len() <= counts.names as usize {
+        return Err(star_read::refuse(tables, Reason::NoRoom, 8));
     }
-    if slots.len() <= reading.names as usize {
-        return star_read::refuse(tokens, sets, names, packets, values, 7, 8);
-    }
-    fill(file, tokens, reading.tokens, names, reading.names, slots);
-    reading
+    let tokens = &mut *tables.tokens;
+    let names = &mut *tables.names;
+    fill(file, tokens, counts.tokens, names, counts.names, slots);
+    Ok(counts)
 }

@@ -22,39 +22,31 @@
 #![tactic(auto)]
 
 mod calls;
+mod command;
 mod index;
 mod plain;
 
-use star_show::{kept, notation, print, split, words};
+use crate::command::Command;
+use star_show::kept::Kept;
+use star_show::{notation, split, words};
 use std::io;
 
-// Writes the plain form of a file whose reading is kept, if it was accepted.
-fn write(rt: &impl Print, file: &[u8], kept: &[u32], refusal: u32) -> io::Result<()> {
-    if refusal != 0 {
-        return Ok(());
-    }
-    print::text(rt, b"\n  plain ")?;
-    plain::run(rt, file, kept)
-}
-
-// Reads a file, and writes the plain form of an accepted one.
-fn read_and_write(rt: &impl Print, file: &[u8]) -> io::Result<()> {
-    let mut kept = kept::room();
-    let refusal = kept::show(rt, file, 0, &mut kept)?;
-    write(rt, file, &kept, refusal)
-}
-
-// Runs a file through the split, reading and writing.
+// Runs a file through the split, reading, and writing where it is accepted.
 fn run_file(rt: &impl Print, file: &[u8]) -> io::Result<()> {
-    print::bar(rt)?;
+    print!(rt; " | ")?;
     split::run(rt, file)?;
-    print::text(rt, b"\n  read ")?;
-    read_and_write(rt, file)
+    print!(rt; "\n  read ")?;
+    let mut kept = Kept::new();
+    if kept.show(rt, file, 0)? {
+        print!(rt; "\n  plain ")?;
+        plain::run(rt, file, &kept)?;
+    }
+    Ok(())
 }
 
 // Runs the first bytes of a long file, so many.
 fn run_first(rt: &impl Print, file: &mut [u8; 1048577], size: u32) -> io::Result<()> {
-    notation::unescape(b"data_a _x ", file);
+    file[..10].copy_from_slice(b"data_a _x ");
     run_file(rt, words::first(file, size))
 }
 
@@ -66,79 +58,81 @@ fn run_long(rt: &impl Print, size: u32) -> io::Result<()> {
 
 // Compares the first word and what follows it.
 fn run_pairs(rt: &impl Print, given: &[u8]) -> io::Result<()> {
-    let mut a = words::room();
-    let a_size = notation::unescape(words::word(given), &mut a);
-    let mut b = words::room();
-    let b_size = notation::unescape(words::rest(given), &mut b);
-    calls::pairs(rt, words::first(&a, a_size), words::first(&b, b_size))
+    let mut a = [0; 8192];
+    let mut b = [0; 8192];
+    calls::pairs(
+        rt,
+        notation::unescape(words::word(given), &mut a),
+        notation::unescape(words::rest(given), &mut b),
+    )
 }
 
 // Takes what follows a kind as the content of a value.
 fn run_number(rt: &impl Print, given: &[u8]) -> io::Result<()> {
-    let mut content = words::room();
-    let size = notation::unescape(words::rest(given), &mut content);
-    calls::number(rt, given, words::first(&content, size))
+    let mut room = [0; 8192];
+    let content = notation::unescape(words::rest(given), &mut room);
+    calls::number(rt, given, content)
 }
 
 // Takes the hash of what is given.
 fn run_hash(rt: &impl Print, given: &[u8]) -> io::Result<()> {
-    let mut bytes = words::room();
-    let size = notation::unescape(given, &mut bytes);
-    index::hash(rt, words::first(&bytes, size))
+    let mut room = [0; 8192];
+    index::hash(rt, notation::unescape(given, &mut room))
 }
 
 // Does what a line says with what it is given, over the last file.
-fn run_on(
-    rt: &impl Print,
-    line: &[u8],
-    given: &[u8],
-    file: &[u8],
-    kept: &mut [u32],
-) -> io::Result<()> {
-    match words::byte(line, 0) {
-        b'c' => run_file(rt, file),
-        b'1' => run_long(rt, words::number(line)),
-        b'r' => calls::read(rt, file, 0, kept),
-        b'o' => calls::read(rt, file, words::number(given), kept),
-        b't' => calls::turn(rt, given, file, kept),
-        b'd' => calls::drop(rt, file, words::number(given), kept),
-        b'f' => calls::fits(rt, file, kept),
-        b'w' => calls::write(rt, file, words::number(given)),
-        b's' => {
-            kept::set(given, kept);
+fn run_on(rt: &impl Print, line: &[u8], file: &[u8], kept: &mut Kept) -> io::Result<()> {
+    let given = words::rest(line);
+    match Command::from(line) {
+        Command::Case => run_file(rt, file),
+        Command::Long => run_long(rt, words::number(line)),
+        Command::Read => calls::read(rt, file, 0, kept),
+        Command::Old => calls::read(rt, file, words::number(given), kept),
+        Command::Turn => calls::turn(rt, given, file, kept),
+        Command::Drop => calls::drop(rt, file, words::number(given), kept),
+        Command::Fits => calls::fits(rt, file, kept),
+        Command::Write => calls::write(rt, file, words::number(given)),
+        Command::Set => {
+            let i = words::rest(given);
+            let word = words::rest(i);
+            kept.set(words::number(given), words::number(i), words::number(word));
             Ok(())
         }
-        b'l' => calls::look(rt, given, file, kept),
-        b'p' => run_pairs(rt, given),
-        b'n' => run_number(rt, given),
-        b'v' => calls::value(rt, given, file, kept),
-        b'b' => index::build(rt, file, words::number(given), kept),
-        b'i' => index::check(rt, given, file, kept),
-        b'a' => index::ask(rt, given, file, kept),
-        b'h' => run_hash(rt, given),
-        _ => Ok(()),
+        Command::Look => calls::look(rt, given, file, kept),
+        Command::Pairs => run_pairs(rt, given),
+        Command::Number => run_number(rt, given),
+        Command::Value => calls::value(rt, given, file, kept),
+        Command::Build => index::build(rt, file, words::number(given), kept),
+        Command::Index => index::check(rt, given, file, kept),
+        Command::Ask => index::ask(rt, given, file, kept),
+        Command::Hash => run_hash(rt, given),
+        Command::Remark => Ok(()),
     }
 }
 
-// Does what a line says over the file of the last line that has one, and prints the line and what came out.
-fn run_line(rt: &impl Print, line: &[u8], last: &[u8], kept: &mut [u32]) -> io::Result<()> {
-    let mut file = words::room();
-    let size = notation::unescape(words::rest(last), &mut file);
-    words::show(rt, line)?;
-    run_on(rt, line, words::rest(line), words::first(&file, size), kept)?;
-    print::text(rt, b"\n")
+// Prints a line, but of a case its file alone, and what comes out of it over the file of the last line that has one.
+fn run_line(rt: &impl Print, line: &[u8], last: &[u8], kept: &mut Kept) -> io::Result<()> {
+    let mut room = [0; 8192];
+    let file = notation::unescape(words::rest(last), &mut room);
+    match Command::from(line) {
+        Command::Case => rt.write_all(words::rest(line))?,
+        _ => rt.write_all(line)?,
+    }
+    run_on(rt, line, file, kept)?;
+    print!(rt; "\n")
 }
 
-// Runs each line.
-fn run_lines(rt: &impl Print, lines: &[u8], kept: &mut [u32]) -> io::Result<()> {
-    let mut begins = true;
-    let mut last = 0;
-    for (at, b) in lines.iter().enumerate() {
-        if begins {
-            last = words::last_of(*b, at, last);
-            run_line(rt, words::line(lines, at), words::line(lines, last), kept)?;
-        }
-        begins = *b == b'\n';
+// Runs each line. Before the first line that has a file, what follows the first word of the first line is the file.
+fn run_lines(rt: &impl Print, lines: &[u8], kept: &mut Kept) -> io::Result<()> {
+    let mut last = None;
+    for line in lines.split_inclusive(|b| *b == b'\n') {
+        let line = line.strip_suffix(b"\n").unwrap_or(line);
+        let with_file = match last {
+            Some(with_file) if !Command::from(line).has_file() => with_file,
+            _ => line,
+        };
+        last = Some(with_file);
+        run_line(rt, line, with_file, kept)?;
     }
     Ok(())
 }
@@ -147,6 +141,5 @@ fn run_lines(rt: &impl Print, lines: &[u8], kept: &mut [u32]) -> io::Result<()> 
 fn main(rt: HostRuntime) -> io::Result<()> {
     let mut lines = [0; 65536];
     let n = star_input::read_full(&mut rt.stdin(), &mut lines)?;
-    let mut kept = kept::room();
-    run_lines(&rt, &lines[..n], &mut kept)
+    run_lines(&rt, &lines[..n], &mut Kept::new())
 }

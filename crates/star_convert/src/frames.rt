@@ -46,13 +46,11 @@ fn put_closes(file: &[u8], layout: u32, tokens: &[u32], count: usize, out: &mut 
         ++ drop (length (plain_of (file_tokens file.now))) out.old }
 {
     let mut at = 0;
-    let mut n = 0;
-    while n < count {
+    for n in 0..count {
         let kind = tokens[n * WIDTH];
         let content = star_lex::content(file, tokens, n);
         put_close(out, at, layout, kind);
         at += star_plain::token::token_length(kind, content);
-        n += 1;
     }
 }
 

@@ -3,32 +3,33 @@
 
 mod frames;
 
-ghost use Rattle.star_read.specs.Answer.{tables};
+ghost use Rattle.star_rows.specs.Tables.{Same};
+ghost use Rattle.star_read.specs.Answer.{held};
+ghost use Rattle.star_write.specs.Answer.{written_of};
 ghost use Rattle.star_convert.specs.Convert.{Converts};
 
-use star_write::Written;
+use star_rows::Tables;
+use star_text::refusal::Refusal;
+use star_write::PlainForm;
 
-// Reads a file in a layout, 0 or 1, into the five tables and writes its plain form in the other: the file's own, in which the words that close frames are then exchanged. On a refusal length,
-// counts, tables and output are all 0.
+// Reads a file in a layout, 0 or 1, into the five tables and writes its plain form in the other: the file's own, in which the words that close frames are then exchanged. On a refusal
+// tables and output are all 0.
 pub fn convert(
     file: &[u8],
     layout: u32,
-    tokens: &mut [u32],
-    sets: &mut [u32],
-    names: &mut [u32],
-    packets: &mut [u32],
-    values: &mut [u32],
+    tables: &mut Tables,
     out: &mut [u8],
-) -> Written
-    ensures { Converts layout file.now
-        (tables tokens.old sets.old names.old packets.old values.old)
-        (tables tokens.new sets.new names.new packets.new values.new)
-        out.old out.new result }
+) -> Result<PlainForm, Refusal>
+    ensures converts { Converts layout file.now (held tables.old) (held tables.new) out.old out.new (written_of result) }
+    ensures same { Same tables.old tables.new }
 {
-    let written = star_write::write_layout(file, layout, tokens, sets, names, packets, values, out);
-    if written.refusal != 0 {
-        return written;
-    }
-    frames::exchange(file, layout, tokens, written.tokens as usize, out);
-    written
+    let written = star_write::write_layout(file, layout, tables, out)?;
+    frames::exchange(
+        file,
+        layout,
+        tables.tokens,
+        written.counts.tokens as usize,
+        out,
+    );
+    Ok(written)
 }

@@ -29,7 +29,7 @@ use Rattle.star_read.proofs.Accepted.{split-via, holds-via, rows-via}
 use Rattle.star_read.specs.Answer.{read_answer, tables_of}
 use Rattle.star_find.specs.Find.{Lent, fits, is_row, content_at, counts_fit}
 use Rattle.star_find.specs.Demands.{lent_after, counts_after, content_of}
-use Rattle.star_find.specs.declared.Counts.{Counts}
+use Rattle.star_rows.specs.declared.Counts.{Counts}
 
 -- the file and the five tables that hold these rows, and their counts
 unfoldable pub left : List ℕ → Sizes → List Placed → Rows → Lent

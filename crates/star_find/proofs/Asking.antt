@@ -1,6 +1,6 @@
 -- The global blocks are asked, the last first: one that answers 13 is passed over, and the first that does not answers.
 use mathlib.Core.Path.{◌≡◌, refl, sym, ◌∙◌, ap}
-use mathlib.Core.Bool.{Bool, true, false, cond}
+use mathlib.Core.Bool.{Bool, true, false, cond, ◌&&◌, and-eq-true_iff}
 use mathlib.Core.List.{List}
 use mathlib.Core.Logic.{◌⊎◌, inl, inr}
 use Prim.Native.Nat.{ℕ, zero, suc, ◌-◌, ◌≤◌, ◌<◌}
@@ -9,7 +9,12 @@ use borrow.Author.Tests.{eqb-true, eqb-false, eq-eqb, ne_eqb}
 use lib.Dec.{eqb}
 use Rattle.star_rows.specs.Rows.{word_of}
 use Rattle.star_find.specs.Find.{refused, or_else, ask_globals, ask_on}
+use Rattle.star_find.specs.Lending.{found_of}
 use Rattle.star_find.specs.declared.Found.{Found}
+use Rattle.star_find.specs.declared.Missing.{Missing}
+use Rattle.star_find.specs.declared.Missing.TheVariants.{NotFound, Outside}
+use Rattle.star_lex.proofs.Cases.{impossible}
+use Rattle.std.proofs.Common.{Result, Ok, Err}
 
 pub or-first : (f g : Found) → (f.refusal ≡ 13 → ⊥) → or_else f g ≡ f
 unfolding or_else
@@ -71,6 +76,29 @@ module _ (sets : List ℕ) (ask : ℕ → Found) where
       → g ≡ ask_globals sets ask (set - 1) → g ≡ ask_on sets ask set
   on-block set e h k n q =
       q ∙ ap (λ t. cond t (ask_globals sets ask (set - 1)) (refused 13)) (sym (eq-eqb (kind_of sets set) 1 (sym k ∙ n))) ∙ on_none set e h
+
+-- an answer with number 13 is that refusal
+missing-13 : (r : Result ℕ Missing) → (found_of r).refusal ≡ 13 → found_of r ≡ refused 13
+unfolding refused
+missing-13 (Ok row) e = absurd (let z : ◌≡◌ {A = ℕ} 0 13 = e in omega arith)
+missing-13 (Err NotFound) e = refl
+missing-13 (Err Outside) e = absurd (let z : ◌≡◌ {A = ℕ} 14 13 = e in omega arith)
+
+-- by the test whether the global blocks are asked: the set's own answer, or theirs
+module _ (sets : List ℕ) (ask : ℕ → Found) (set : ℕ) (r : Result ℕ Missing) {test : Bool} (own : found_of r ≡ ask set)
+    (tested : test ≡ (eqb (found_of r).refusal 13 && eqb (kind_of sets set) 1)) where
+  pub on-stays : test ≡ false → found_of r ≡ ask_on sets ask set
+  on-stays f = by (eqb (found_of r).refusal 13) refl (eqb (kind_of sets set) 1) refl
+    where
+      by : (t : Bool) → eqb (found_of r).refusal 13 ≡ t → (u : Bool) → eqb (kind_of sets set) 1 ≡ u → found_of r ≡ ask_on sets ask set
+      by false e u k = on-own sets ask set own (eqb-false _ _ e)
+      by true e false k = missing-13 r (eqb-true _ _ e) ∙ on-other sets ask set own (eqb-true _ _ e) refl (eqb-false _ _ k)
+      by true e true k = impossible (let z : true ≡ false = sym (tested ∙ rw (e, k)) ∙ f in cc)
+
+  pub on-goes : {g : Found} → test ≡ true → g ≡ ask_globals sets ask (set - 1) → g ≡ ask_on sets ask set
+  on-goes t q =
+      let p : (eqb (found_of r).refusal 13 ≡ true) × (eqb (kind_of sets set) 1 ≡ true) = (and-eq-true_iff _ _).0 (sym tested ∙ t) in
+      on-block sets ask set own (eqb-true _ _ p.0) refl (eqb-true _ _ p.1) q
 
 -- no global block after a set, and up to another, holds what is asked for
 abbrev pub NoneAfter : (sets : List ℕ) (H : ℕ → Type 0) (g n : ℕ) → Type 0

@@ -10,7 +10,7 @@ use Rattle.star_rows.specs.Rows.{word_of}
 use Rattle.star_text.specs.Names.{same}
 use Rattle.star_find.specs.Find.{Lent, content_at, found, refused, meet, seek, is_wanted, look, counts_fit, row_there, own_name, or_else, ask_globals, ask_on, find_name, find_block, find_frame}
 use Rattle.star_find.specs.Demands.{RowAnswer, LookupsAnswer}
-use Rattle.star_find.specs.declared.Counts.{Counts}
+use Rattle.star_rows.specs.declared.Counts.{Counts}
 use Rattle.star_find.specs.declared.Found.{Found}
 
 pub answer-cond : {rows : ℕ} {a b : Found} (t : Bool) → RowAnswer rows a → RowAnswer rows b → RowAnswer rows (cond t a b)

@@ -8,6 +8,7 @@ use native.Mathlib.Numerals.{add-one}
 use native.Mathlib.Omega.{arith}
 use borrow.Author.Tests.{leb-true}
 use lib.Dec.{leb}
+use Rattle.std.proofs.Common.{Ok, Err}
 use lib.ListN.{length, get_or, take, drop}
 use Rattle.star_rows.specs.Rows.{word_of}
 use Rattle.star_rows.proofs.Words.{word_row}
@@ -16,10 +17,11 @@ use Rattle.star_lex.specs.Table.{content_in}
 use Rattle.star_lex.proofs.Cases.{impossible}
 use Rattle.star_lex.proofs.Table.{Spans, content-inside, content-whole}
 use Rattle.star_text.specs.Names.{same}
-use Rattle.star_find.specs.Find.{is_row, content_at, match_of, meet, seek, found, refused}
+use Rattle.star_find.specs.Find.{Match, is_row, content_at, match_of, meet, seek, found, refused}
+use Rattle.star_find.specs.Lending.{number, compared}
 use Rattle.star_find.specs.declared.Found.{Found}
-use Rattle.star_find.specs.declared.Match.{Match}
-use Rattle.star_find.specs.declared.Match.TheVariants.{Outside, Equal, Other}
+use Rattle.star_find.specs.declared.Missing.{Missing}
+use Rattle.star_find.specs.declared.Missing.TheVariants.{NotFound, Outside}
 
 pub row-bounds : (count row : ℕ) → is_row count row ≡ true → (1 ≤ row) × (row ≤ count)
 unfolding is_row
@@ -29,45 +31,77 @@ row-bounds count row e =
 
 -- what one row decides
 abbrev pub decided : Match → (row : ℕ) → Found → Found
-decided Outside row others = refused 14
-decided Equal row others = found row
-decided Other row others = others
+decided Match.Outside row others = refused 14
+decided Match.Equal row others = found row
+decided Match.Other row others = others
 
 pub meet-decides : (wanted : List ℕ) (row : ℕ) (o : Option (List ℕ)) (others : Found) → meet wanted row o others ≡ decided (match_of wanted o) row others
 unfolding meet match_of
 meet-decides wanted row none others = refl
 meet-decides wanted row (some c) others = go (same c wanted)
   where
-    go : (t : Bool) → cond t (found row) others ≡ decided (cond t Equal Other) row others
+    go : (t : Bool) → cond t (found row) others ≡ decided (cond t Match.Equal Match.Other) row others
     go true = refl
     go false = refl
 
 seek-row : (is_one : ℕ → Bool) (content : ℕ → Option (List ℕ)) (wanted : List ℕ) (left row : ℕ)
     → seek is_one content wanted (suc left) row
-    ≡ decided (cond (is_one row) (match_of wanted (content row)) Other) row (seek is_one content wanted left (suc row))
+    ≡ decided (cond (is_one row) (match_of wanted (content row)) Match.Other) row (seek is_one content wanted left (suc row))
 unfolding seek
 seek-row is_one content wanted left row = go (is_one row)
   where
     rest : Found
     rest = seek is_one content wanted left (suc row)
 
-    go : (t : Bool) → cond t (meet wanted row (content row) rest) rest ≡ decided (cond t (match_of wanted (content row)) Other) row rest
+    go : (t : Bool) → cond t (meet wanted row (content row) rest) rest ≡ decided (cond t (match_of wanted (content row)) Match.Other) row rest
     go true = meet-decides wanted row (content row) rest
     go false = refl
 
-pub seek-at : (is_one : ℕ → Bool) (content : ℕ → Option (List ℕ)) (wanted : List ℕ) (rows i : ℕ) → i < rows
-    → seek is_one content wanted (rows - i) (i + 1)
-    ≡ decided (cond (is_one (i + 1)) (match_of wanted (content (i + 1))) Other) (i + 1) (seek is_one content wanted (rows - (i + 1)) (i + 1 + 1))
-seek-at is_one content wanted rows i h =
-    ap (λ n. seek is_one content wanted n (i + 1)) (let e : rows - i ≡ suc (rows - (i + 1)) = omega arith in e)
-    ∙ seek-row is_one content wanted (rows - (i + 1)) (i + 1)
-    ∙ ap (λ n. decided (cond (is_one (i + 1)) (match_of wanted (content (i + 1))) Other) (i + 1) (seek is_one content wanted (rows - (i + 1)) n))
-    (sym (add-one (i + 1)))
+seek-at : (is_one : ℕ → Bool) (content : ℕ → Option (List ℕ)) (wanted : List ℕ) (rows row : ℕ) → row ≤ rows
+    → seek is_one content wanted (rows + 1 - row) row
+    ≡ decided (cond (is_one row) (match_of wanted (content row)) Match.Other) row (seek is_one content wanted (rows + 1 - (row + 1)) (row + 1))
+seek-at is_one content wanted rows row h =
+    ap (λ n. seek is_one content wanted n row) (let e : rows + 1 - row ≡ suc (rows + 1 - (row + 1)) = omega arith in e)
+    ∙ seek-row is_one content wanted (rows + 1 - (row + 1)) row
+    ∙ ap (λ n. decided (cond (is_one row) (match_of wanted (content row)) Match.Other) row (seek is_one content wanted (rows + 1 - (row + 1)) n))
+    (sym (add-one row))
 
-pub seek-over : (is_one : ℕ → Bool) (content : ℕ → Option (List ℕ)) (wanted : List ℕ) (rows i : ℕ) → rows ≤ i
-    → seek is_one content wanted (rows - i) (i + 1) ≡ refused 13
+-- the row that was compared decides
+pub seek-by : (is_one : ℕ → Bool) (content : ℕ → Option (List ℕ)) (wanted : List ℕ) (rows row : ℕ) {m : Match} → row ≤ rows
+    → cond (is_one row) (match_of wanted (content row)) Match.Other ≡ m
+    → seek is_one content wanted (rows + 1 - row) row ≡ decided m row (seek is_one content wanted (rows + 1 - (row + 1)) (row + 1))
+seek-by is_one content wanted rows row h e =
+    seek-at is_one content wanted rows row h ∙ ap (λ d. decided d row (seek is_one content wanted (rows + 1 - (row + 1)) (row + 1))) e
+
+pub seek-over : (is_one : ℕ → Bool) (content : ℕ → Option (List ℕ)) (wanted : List ℕ) (rows row : ℕ) → rows < row
+    → seek is_one content wanted (rows + 1 - row) row ≡ refused 13
 unfolding seek
-seek-over is_one content wanted rows i h = ap (λ n. seek is_one content wanted n (i + 1)) (let e : rows - i ≡ 0 = omega arith in e)
+seek-over is_one content wanted rows row h = ap (λ n. seek is_one content wanted n row) (let e : rows + 1 - row ≡ 0 = omega arith in e)
+
+-- what a comparison answers says how the content compares
+pub compared-same : (t : Bool) → Ok t ≡ compared (cond t Match.Equal Match.Other)
+compared-same true = refl
+compared-same false = refl
+
+pub compared-outside : (m : Match) {missing : Missing} → Err missing ≡ compared m → (m ≡ Match.Outside) × (missing ≡ Outside)
+compared-outside Match.Outside e = (refl, cc e)
+compared-outside Match.Equal e = impossible cc
+compared-outside Match.Other e = impossible cc
+
+pub compared-equal : (m : Match) → Ok true ≡ compared m → m ≡ Match.Equal
+compared-equal Match.Outside e = impossible cc
+compared-equal Match.Equal e = refl
+compared-equal Match.Other e = impossible cc
+
+pub compared-other : (m : Match) → Ok false ≡ compared m → m ≡ Match.Other
+compared-other Match.Outside e = impossible cc
+compared-other Match.Equal e = impossible cc
+compared-other Match.Other e = refl
+
+-- a refusal is no number 0
+pub number-not-0 : (m : Missing) → number m ≡ 0 → ⊥
+number-not-0 NotFound e = let z : ◌≡◌ {A = ℕ} 13 0 = e in omega arith
+number-not-0 Outside e = let z : ◌≡◌ {A = ℕ} 14 0 = e in omega arith
 
 pub is_none : (o : Option (List ℕ)) → is_some o ≡ false → o ≡ none
 unfolding is_some

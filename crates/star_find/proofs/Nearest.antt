@@ -147,23 +147,44 @@ module _ (sets names : List ℕ) (content : ℕ → Option (List ℕ)) (wanted :
     settled = λ _. h;
   }
 
-  -- what a turn of the loop leaves: a row of no nearer global block before a set, one that answers 13, and one that answers
-  pub turn-other : (set : ℕ) {n near s : ℕ} {kept : Found} {nearer : Bool} → Nearest (set - 1) n near kept → s ≡ set_of (n + 1)
+  -- what one row more leaves: one of no nearer global block before a set, one that answers 13, and one that answers
+  other : (set : ℕ) {n near s : ℕ} {kept : Found} {nearer : Bool} → Nearest (set - 1) n near kept → s ≡ set_of (n + 1)
       → nearer ≡ (ltb near s && (ltb s set && eqb (kind_of sets s) 3)) → nearer ≡ false → Nearest (set - 1) (n + 1) near kept
-  turn-other set {n} {near} {s} p e t f =
+  other set {n} {near} {s} p e t f =
       nearest-passed p (λ a b k. let l : near < s = rw e a in absurd (nearer-false sets s near set (sym t ∙ f) l (omega (arith, l, e, b)) (rw e k)))
 
-  pub turn-none : {end n near : ℕ} {kept answer : Found} → Nearest end n near kept → answer ≡ row_answer content wanted (n + 1) → answer.refusal ≡ 13
+  answers-none : {end n near : ℕ} {kept answer : Found} → Nearest end n near kept → answer ≡ row_answer content wanted (n + 1) → answer.refusal ≡ 13
       → Nearest end (n + 1) near kept
-  turn-none p e h = nearest-passed p (λ _ _ _. sym (ap (λ f. f.refusal) e) ∙ h)
+  answers-none p e h = nearest-passed p (λ _ _ _. sym (ap (λ f. f.refusal) e) ∙ h)
 
-  pub turn-answer : (set : ℕ) {n near s : ℕ} {kept answer : Found} {nearer : Bool} → Nearest (set - 1) n near kept → s ≡ set_of (n + 1)
+  answer : (set : ℕ) {n near s : ℕ} {kept answer : Found} {nearer : Bool} → Nearest (set - 1) n near kept → s ≡ set_of (n + 1)
       → nearer ≡ (ltb near s && (ltb s set && eqb (kind_of sets s) 3)) → nearer ≡ true → answer ≡ row_answer content wanted (n + 1)
       → (answer.refusal ≡ 13 → ⊥) → Nearest (set - 1) (n + 1) s answer
-  turn-answer set {n} {near} {s} p e t f q h =
+  answer set {n} {near} {s} p e t f q h =
       let k : (near < s) × (s < set) × (kind_of sets s ≡ 3) = nearer-true sets s near set (sym t ∙ f) in
       rw (e, q)
       (nearest-taken p (rw e at k.0) (omega (arith, e, k.0, k.1)) (rw e at k.2) (λ r. h (ap (λ f. f.refusal) q ∙ r)))
+
+  -- a turn of the loop, which comes to the rows counted from 1
+  back : (row : ℕ) → 1 ≤ row → row ≡ row - 1 + 1
+  back row h = omega arith
+
+  next : {end row near : ℕ} {kept : Found} → 1 ≤ row → Nearest end (row - 1 + 1) near kept → Nearest end (row + 1 - 1) near kept
+  next {row = row} h p = rw (let e : row + 1 - 1 ≡ row - 1 + 1 = omega arith in e) p
+
+  pub turn-other : (set : ℕ) {row near s : ℕ} {kept : Found} {nearer : Bool} → 1 ≤ row → Nearest (set - 1) (row - 1) near kept → s ≡ set_of row
+      → nearer ≡ (ltb near s && (ltb s set && eqb (kind_of sets s) 3)) → nearer ≡ false → Nearest (set - 1) (row + 1 - 1) near kept
+  turn-other set {row = row} h p e t f = next h (other set p (e ∙ ap set_of (back row h)) t f)
+
+  pub turn-none : {end row near : ℕ} {kept answer : Found} → 1 ≤ row → Nearest end (row - 1) near kept → answer ≡ row_answer content wanted row
+      → answer.refusal ≡ 13 → Nearest end (row + 1 - 1) near kept
+  turn-none {row = row} h p e q = next h (answers-none p (e ∙ ap (row_answer content wanted) (back row h)) q)
+
+  pub turn-answer : (set : ℕ) {row near s : ℕ} {kept answered : Found} {nearer : Bool} → 1 ≤ row → Nearest (set - 1) (row - 1) near kept → s ≡ set_of row
+      → nearer ≡ (ltb near s && (ltb s set && eqb (kind_of sets s) 3)) → nearer ≡ true → answered ≡ row_answer content wanted row
+      → (answered.refusal ≡ 13 → ⊥) → Nearest (set - 1) (row + 1 - 1) s answered
+  turn-answer set {row = row} h p e t f q n =
+      next h (answer set p (e ∙ ap set_of (back row h)) t f (q ∙ ap (row_answer content wanted) (back row h)) n)
 
   nearest-at : {end n near : ℕ} {kept : Found} → Nearest end n near kept → ask_globals sets (own n) near ≡ kept
   unfolding ask_globals

@@ -16,7 +16,7 @@ use Rattle.star_lex.proofs.Cases.{impossible}
 use Rattle.star_text.specs.Names.{key, same}
 use Rattle.star_text.proofs.Names.{same_true, same_false}
 use Rattle.star_find.specs.Find.{Lent, content_at, is_wanted, seek, meet, found, refused, look}
-use Rattle.star_find.specs.declared.Counts.{Counts}
+use Rattle.star_rows.specs.declared.Counts.{Counts}
 use Rattle.star_find.specs.declared.Found.{Found}
 
 -- of so many rows, counted from 0, the first with the property answers its number, counted from 1; 13 where none has it

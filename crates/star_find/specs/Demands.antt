@@ -11,7 +11,7 @@ use Rattle.star_read.specs.Read.{Sizes, tokens_only, Way, way_rules, read_via}
 use Rattle.star_read.specs.Answer.{read_answer, Tables, tables_of}
 use Rattle.star_read.specs.declared.Answer.{Answer}
 use Rattle.star_find.specs.Find.{Lent, lent, find_name, find_block, find_frame}
-use Rattle.star_find.specs.declared.Counts.{Counts}
+use Rattle.star_rows.specs.declared.Counts.{Counts}
 use Rattle.star_find.specs.declared.Found.{Found}
 
 -- the file with the tables that reading in a layout or as an old file leaves, and the counts that it answers

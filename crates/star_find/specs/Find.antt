@@ -5,10 +5,8 @@ use Rattle.star_rows.specs.Widths.{token_width, set_width, name_width, packet_wi
 use Rattle.star_rows.specs.Rows.{word_of, has_room}
 use Rattle.star_lex.specs.Table.{content_in}
 use Rattle.star_text.specs.Names.{same}
-use Rattle.star_find.specs.declared.Counts.{Counts}
+use Rattle.star_rows.specs.declared.Counts.{Counts}
 use Rattle.star_find.specs.declared.Found.{Found}
-use Rattle.star_find.specs.declared.Match.{Match}
-use Rattle.star_find.specs.declared.Match.TheVariants.{Outside, Equal, Other}
 
 -- what is lent: the file and the five tables
 pub record Lent : Type 0 where
@@ -101,7 +99,12 @@ find_block l c code = cond (counts_fit l c) (look l c l.sets set_width 1 false 0
 unfoldable pub find_frame : Lent → Counts → (set : ℕ) → (code : List ℕ) → Found
 find_frame l c set code = cond (row_there l c c.sets set) (look l c l.sets set_width 2 true set code c.sets) (refused 14)
 
--- how a content compares
+-- how a content compares: its row or span points outside, it is equal, or it is another
+pub data Match : Type 0 where
+  Outside : Match
+  Equal : Match
+  Other : Match
+
 unfoldable pub match_of : (wanted : List ℕ) → Option (List ℕ) → Match
-match_of wanted none = Outside
-match_of wanted (some content) = cond (same content wanted) Equal Other
+match_of wanted none = Match.Outside
+match_of wanted (some content) = cond (same content wanted) Match.Equal Match.Other

@@ -1,26 +1,17 @@
 // Lookup by name and code. The tables, the counts and the numbers may hold anything, and nothing is written.
 #![tactic(auto)]
 
-ghost use Rattle.std.specs.Prelude.{◌≡◌, false, cond, ◌&&◌, ◌-◌, eqb, ltb};
+ghost use Rattle.std.specs.Prelude.{◌≡◌, cond, ◌&&◌, ◌-◌, eqb, ltb};
 ghost use Rattle.star_rows.specs.Widths.{token_width, set_width, name_width};
 ghost use Rattle.star_rows.specs.Rows.{word_of};
 ghost use Rattle.star_lex.specs.Answer.{is_some};
 ghost use Rattle.star_lex.specs.Table.{or_empty, further};
-ghost use Rattle.star_find.specs.Find.{lent, fits, is_row, content_at, row_there, refused, meet, find_block, find_frame, ask_globals, ask_on, find_name, is_wanted, match_of, seek as find_seek};
-ghost use Rattle.star_find.specs.declared.Match.TheVariants.{Other};
+ghost use Rattle.star_find.specs.Find.{is_row, row_there, refused, meet, find_block, find_frame, ask_globals, ask_on, find_name, match_of, counts_fit, seek as find_seek};
+ghost use Rattle.star_find.specs.Lending.{number, found_of, compared, seen, content, contents_of, is_asked, named, match_at};
 
-// How many rows each table has.
-#[repr(C)]
-#[derive(Clone, Copy)]
-pub struct Counts {
-    pub tokens: u32,
-    pub sets: u32,
-    pub names: u32,
-    pub packets: u32,
-    pub values: u32,
-}
+use star_rows::Counts;
 
-// What a lookup answers: refusal and row, 0 where it is refused.
+// What a lookup answers through C: refusal and row, 0 where it is refused.
 #[repr(C)]
 #[derive(Clone, Copy)]
 pub struct Found {
@@ -28,290 +19,85 @@ pub struct Found {
     pub row: u32,
 }
 
-// Which rows of a table are looked at: those whose first word is `first` and, by parent, whose third is `parent`.
+// Why a lookup has no answer: nothing is there, or a count, a row or a span points outside.
+#[derive(Clone, Copy, Debug, PartialEq, Eq)]
+pub enum Missing {
+    NotFound = 13,
+    Outside = 14,
+}
+
+// A file and its token rows, as many as the count says.
+#[derive(Clone, Copy)]
+pub struct Contents<'a, 'b> {
+    pub file: &'a [u8],
+    pub tokens: &'b [u32],
+    pub count: u32,
+}
+
+// A file and its five tables, lent to be read, and how many rows each has.
+#[derive(Clone, Copy)]
+pub struct Lent<'a, 'b> {
+    pub file: &'a [u8],
+    pub tokens: &'b [u32],
+    pub sets: &'b [u32],
+    pub names: &'b [u32],
+    pub packets: &'b [u32],
+    pub values: &'b [u32],
+    pub counts: Counts,
+}
+
+// Which rows of a table are looked at: those whose first word is `first` and, where a parent is given, whose third is that.
 #[derive(Clone, Copy)]
 pub struct Wanted {
     pub width: u32,
     pub first: u32,
-    pub by_parent: bool,
-    pub parent: u32,
+    pub parent: Option<u32>,
 }
 
-// How a row compares.
-#[derive(Clone, Copy)]
-pub enum Match {
-    Outside,
-    Equal,
-    Other,
+impl Missing {
+    // Its number in the interface.
+    pub fn number(self) -> u32
+        ensures { result ≡ number self }
+    {
+        self as u32
+    }
 }
 
-// Whether no count is larger than its table holds.
-fn counts_fit(
-    tokens: &[u32],
-    sets: &[u32],
-    names: &[u32],
-    packets: &[u32],
-    values: &[u32],
-    counts: Counts,
-) -> bool
-    ensures { result ≡ fits tokens.now sets.now names.now packets.now values.now counts }
-{
-    if !star_rows::fits(counts.tokens, star_rows::TOKEN_WIDTH, tokens.len()) {
-        return false;
+impl From<Result<u32, Missing>> for Found {
+    ghost from_gives = { λ answer found. found ≡ found_of answer };
+
+    fn from(answer: Result<u32, Missing>) -> Found {
+        match answer {
+            Ok(row) => Found { refusal: 0, row },
+            Err(missing) => Found {
+                refusal: missing.number(),
+                row: 0,
+            },
+        }
     }
-    if !star_rows::fits(counts.sets, star_rows::SET_WIDTH, sets.len()) {
-        return false;
-    }
-    if !star_rows::fits(counts.names, star_rows::NAME_WIDTH, names.len()) {
-        return false;
-    }
-    if !star_rows::fits(counts.packets, star_rows::PACKET_WIDTH, packets.len()) {
-        return false;
-    }
-    star_rows::fits(counts.values, star_rows::VALUE_WIDTH, values.len())
 }
 
 // Whether a row number is neither 0 nor above its count.
+#[tactic(auto, unfolding(crate::specs::Find::is_row))]
 fn is_row(count: u32, row: u32) -> bool
     ensures { result ≡ is_row count row }
 {
-    if row == 0 { false } else { row <= count }
+    1 <= row && row <= count
 }
 
-// Whether no count is larger than its table holds, and a row number is a row of so many.
-pub fn row_there(
-    file: &[u8],
-    tokens: &[u32],
-    sets: &[u32],
-    names: &[u32],
-    packets: &[u32],
-    values: &[u32],
-    counts: Counts,
-    count: u32,
-    row: u32,
-) -> bool
-    ensures { result ≡ row_there (lent file.now tokens.now sets.now names.now packets.now
-        values.now) counts count row }
-{
-    if counts_fit(tokens, sets, names, packets, values, counts) {
-        is_row(count, row)
-    } else {
-        false
-    }
-}
-
-// Whether a token row and its span point inside.
-pub fn has_part(file: &[u8], tokens: &[u32], count: u32, row: u32) -> bool
-    ensures { result ≡ is_some (content_at file.now tokens.now count row) }
-{
-    if is_row(count, row) {
-        star_lex::has_content(file, tokens, (row - 1) as usize)
-    } else {
-        false
-    }
-}
-
-// The part of the file that a token row has; it is empty, at the file's start, where the row or its span points outside.
-pub fn part<'a, 'b>(file: &'a [u8], tokens: &'b [u32], count: u32, row: u32) -> &'a [u8]
-    ensures result_value { result.now ≡ or_empty (content_at file.now tokens.now count row) }
-    ensures ref_ptr_value { result.ref_ptr ≡ further file.entry.ref_ptr (cond (is_some (content_at file.now tokens.now count row))
-        (word_of tokens.now token_width row 1) 0) }
-{
-    if !is_row(count, row) {
-        return &file[0..0];
-    }
-    star_lex::content(file, tokens, (row - 1) as usize)
-}
-
-// How the content of a token row compares with these bytes.
-pub fn compare(file: &[u8], tokens: &[u32], count: u32, row: u32, wanted: &[u8]) -> Match
-    ensures { result ≡ match_of wanted.now (content_at file.now tokens.now count row) }
-{
-    if !has_part(file, tokens, count, row) {
-        return Match::Outside;
-    }
-    let compared = star_text::compare(part(file, tokens, count, row), wanted);
-    if compared.equal {
-        Match::Equal
-    } else {
-        Match::Other
-    }
-}
-
-// Whether a row of a table is looked at.
-fn is_wanted(table: &[u32], row: u32, w: Wanted) -> bool
-    ensures { result ≡ is_wanted table.now w.width w.first w.by_parent w.parent row }
-{
-    if star_rows::word(table, w.width, row, 0) != w.first {
-        return false;
-    }
-    if w.by_parent {
-        star_rows::word(table, w.width, row, 2) == w.parent
-    } else {
-        true
-    }
-}
-
-// How a row of a table compares by the token in its second word.
-fn compare_row(
-    file: &[u8],
-    tokens: &[u32],
-    count: u32,
-    table: &[u32],
-    row: u32,
-    w: Wanted,
-    bytes: &[u8],
-) -> Match
-    ensures { result ≡ cond (is_wanted table.now w.width w.first w.by_parent w.parent row)
-        (match_of bytes.now (content_at file.now tokens.now count (word_of table.now w.width row 1)))
-        Other }
-{
-    if is_wanted(table, row, w) {
-        compare(
-            file,
-            tokens,
-            count,
-            star_rows::word(table, w.width, row, 1),
-            bytes,
-        )
-    } else {
-        Match::Other
-    }
-}
-
-// The first of so many rows that is looked at and has these bytes.
-fn seek(
-    file: &[u8],
-    tokens: &[u32],
-    count: u32,
-    table: &[u32],
-    rows: u32,
-    w: Wanted,
-    bytes: &[u8],
-) -> Found
-    ensures { result ≡ find_seek (is_wanted table.now w.width w.first w.by_parent w.parent)
-        (λ row. content_at file.now tokens.now count (word_of table.now w.width row 1)) bytes.now rows 1 }
-{
-    let mut i: u32 = 0;
-    while i < rows {
-        match compare_row(file, tokens, count, table, i + 1, w, bytes) {
-            Match::Outside => {
-                return Found {
-                    refusal: 14,
-                    row: 0,
-                };
-            }
-            Match::Equal => {
-                return Found {
-                    refusal: 0,
-                    row: i + 1,
-                };
-            }
-            Match::Other => {
-                i += 1;
-            }
+impl Wanted {
+    // Whether a row of a table is looked at.
+    #[tactic(auto, unfolding(crate::specs::Find::is_wanted))]
+    fn takes(&self, table: &[u32], row: u32) -> bool
+        ensures { result ≡ is_asked table.now self.now row }
+    {
+        if star_rows::word(table, self.width, row, 0) != self.first {
+            return false;
         }
-    }
-    Found {
-        refusal: 13,
-        row: 0,
-    }
-}
-
-// The first data block with this code.
-pub fn find_block(
-    file: &[u8],
-    tokens: &[u32],
-    sets: &[u32],
-    names: &[u32],
-    packets: &[u32],
-    values: &[u32],
-    counts: Counts,
-    code: &[u8],
-) -> Found
-    ensures { result ≡ find_block (lent file.now tokens.now sets.now names.now packets.now
-        values.now) counts code.now }
-{
-    if counts_fit(tokens, sets, names, packets, values, counts) {
-        let wanted = Wanted {
-            width: star_rows::SET_WIDTH,
-            first: 1,
-            by_parent: false,
-            parent: 0,
-        };
-        seek(file, tokens, counts.tokens, sets, counts.sets, wanted, code)
-    } else {
-        Found {
-            refusal: 14,
-            row: 0,
+        match self.parent {
+            Some(parent) => star_rows::word(table, self.width, row, 2) == parent,
+            None => true,
         }
-    }
-}
-
-// The first frame of a set with this code.
-pub fn find_frame(
-    file: &[u8],
-    tokens: &[u32],
-    sets: &[u32],
-    names: &[u32],
-    packets: &[u32],
-    values: &[u32],
-    counts: Counts,
-    set: u32,
-    code: &[u8],
-) -> Found
-    ensures { result ≡ find_frame (lent file.now tokens.now sets.now names.now packets.now
-        values.now) counts set code.now }
-{
-    if row_there(
-        file,
-        tokens,
-        sets,
-        names,
-        packets,
-        values,
-        counts,
-        counts.sets,
-        set,
-    ) {
-        let wanted = Wanted {
-            width: star_rows::SET_WIDTH,
-            first: 2,
-            by_parent: true,
-            parent: set,
-        };
-        seek(file, tokens, counts.tokens, sets, counts.sets, wanted, code)
-    } else {
-        Found {
-            refusal: 14,
-            row: 0,
-        }
-    }
-}
-
-// What a name row answers by the token in its second word: its number where that has these bytes, 14 where it points outside, else 13.
-fn row_answer(
-    file: &[u8],
-    tokens: &[u32],
-    count: u32,
-    names: &[u32],
-    row: u32,
-    bytes: &[u8],
-) -> Found
-    ensures { result ≡ meet bytes.now row
-        (content_at file.now tokens.now count (word_of names.now name_width row 1)) (refused 13) }
-{
-    let token = star_rows::word(names, star_rows::NAME_WIDTH, row, 1);
-    match compare(file, tokens, count, token, bytes) {
-        Match::Outside => Found {
-            refusal: 14,
-            row: 0,
-        },
-        Match::Equal => Found { refusal: 0, row },
-        Match::Other => Found {
-            refusal: 13,
-            row: 0,
-        },
     }
 }
 
@@ -319,127 +105,222 @@ fn row_answer(
 fn is_nearer(sets: &[u32], s: u32, near: u32, set: u32) -> bool
     ensures { result ≡ (ltb near s && (ltb s set && eqb (word_of sets.now set_width s 0) 3)) }
 {
-    if s <= near {
-        return false;
-    }
-    if set <= s {
-        return false;
-    }
-    star_rows::word(sets, star_rows::SET_WIDTH, s, 0) == 3
+    near < s && s < set && star_rows::word(sets, star_rows::SET_WIDTH, s, 0) == 3
 }
 
-// The answer of the nearest global block before a set that does not answer 13, or 13. Each name row is looked at once: `near` is the nearest so
-// far, 0 for none, and `kept` its answer.
-fn find_global(
-    file: &[u8],
-    tokens: &[u32],
-    count: u32,
-    sets: &[u32],
-    names: &[u32],
-    rows: u32,
-    set: u32,
-    bytes: &[u8],
-) -> Found
-    ensures { result ≡ ask_globals sets.now (λ s. find_seek (is_wanted names.now name_width s false 0)
-        (λ row. content_at file.now tokens.now count (word_of names.now name_width row 1)) bytes.now rows 1)
-        (set - 1) }
+// Whether an answer is that nothing is there.
+pub fn is_not_found(answer: Result<u32, Missing>) -> bool
+    ensures { result ≡ eqb (found_of answer).refusal 13 }
 {
-    let mut near: u32 = 0;
-    let mut kept = Found {
-        refusal: 13,
-        row: 0,
-    };
-    let mut i: u32 = 0;
-    while i < rows {
-        i += 1;
-        let s = star_rows::word(names, star_rows::NAME_WIDTH, i, 0);
-        if !is_nearer(sets, s, near, set) {
-            continue;
-        }
-        let answer = row_answer(file, tokens, count, names, i, bytes);
-        if answer.refusal == 13 {
-            continue;
-        }
-        near = s;
-        kept = answer;
-    }
-    kept
+    answer == Err(Missing::NotFound)
 }
 
-// The first name of a set with these bytes or, where a data block answers 13, what the global blocks before it answer.
-fn seek_name(
-    file: &[u8],
-    tokens: &[u32],
-    count: u32,
-    sets: &[u32],
-    names: &[u32],
-    rows: u32,
-    set: u32,
-    bytes: &[u8],
-) -> Found
-    ensures { result ≡ ask_on sets.now (λ s. find_seek (is_wanted names.now name_width s false 0)
-        (λ row. content_at file.now tokens.now count (word_of names.now name_width row 1)) bytes.now rows 1)
-        set }
+// Whether a set that has answered so goes on to the global blocks before it: it is a data block, and does not have the name.
+pub fn goes_on(sets: &[u32], set: u32, own: Result<u32, Missing>) -> bool
+    ensures { result ≡ (eqb (found_of own).refusal 13 && eqb (word_of sets.now set_width set 0) 1) }
 {
-    let wanted = Wanted {
-        width: star_rows::NAME_WIDTH,
-        first: set,
-        by_parent: false,
-        parent: 0,
-    };
-    let own = seek(file, tokens, count, names, rows, wanted, bytes);
-    if own.refusal != 13 {
-        return own;
+    is_not_found(own) && star_rows::word(sets, star_rows::SET_WIDTH, set, 0) == 1
+}
+
+impl<'a, 'b> Contents<'a, 'b> {
+    // Whether a token row and its span point inside.
+    #[tactic(auto, unfolding(crate::specs::Find::content_at, crate::specs::Find::is_row))]
+    pub fn has_part(&self, row: u32) -> bool
+        ensures { result ≡ is_some (content self.now row) }
+    {
+        is_row(self.count, row) && star_lex::has_content(self.file, self.tokens, (row - 1) as usize)
     }
-    if star_rows::word(sets, star_rows::SET_WIDTH, set, 0) != 1 {
-        return Found {
-            refusal: 13,
-            row: 0,
+
+    // The part of the file that a token row has; it is empty, at the file's start, where the row or its span points outside.
+    pub fn part(&self, row: u32) -> &'a [u8]
+        ensures result_value { result.now ≡ or_empty (content self.now row) }
+        ensures ref_ptr_value { result.ref_ptr ≡ further self.now.file.ref_ptr (cond (is_some (content self.now row))
+            (word_of self.now.tokens.now token_width row 1) 0) }
+    {
+        if !is_row(self.count, row) {
+            return &self.file[0..0];
+        }
+        star_lex::content(self.file, self.tokens, (row - 1) as usize)
+    }
+
+    // Whether the content of a token row equals these bytes.
+    pub fn compare(&self, row: u32, wanted: &[u8]) -> Result<bool, Missing>
+        ensures { result ≡ compared (match_of wanted.now (content self.now row)) }
+    {
+        if !self.has_part(row) {
+            return Err(Missing::Outside);
+        }
+        Ok(star_text::compare(self.part(row), wanted).equal)
+    }
+
+    // Whether a row of a table is looked at and has these bytes, by the token in its second word.
+    #[inline]
+    pub fn compare_row(
+        &self,
+        table: &[u32],
+        row: u32,
+        wanted: Wanted,
+        bytes: &[u8],
+    ) -> Result<bool, Missing>
+        ensures { result ≡ compared (match_at self.now table.now wanted bytes.now row) }
+    {
+        if wanted.takes(table, row) {
+            self.compare(star_rows::word(table, wanted.width, row, 1), bytes)
+        } else {
+            Ok(false)
+        }
+    }
+
+    // The first of so many rows that is looked at and has these bytes.
+    fn seek(&self, table: &[u32], rows: u32, wanted: Wanted, bytes: &[u8]) -> Result<u32, Missing>
+        ensures { found_of result ≡ find_seek (is_asked table.now wanted) (named self.now table.now wanted.width) bytes.now rows 1 }
+    {
+        for row in 1..=rows {
+            if self.compare_row(table, row, wanted, bytes)? {
+                return Ok(row);
+            }
+        }
+        Err(Missing::NotFound)
+    }
+
+    // What a name row answers by the token in its second word: its number where that has these bytes.
+    fn row_answer(&self, names: &[u32], row: u32, bytes: &[u8]) -> Result<u32, Missing>
+        ensures { found_of result ≡ meet bytes.now row (named self.now names.now name_width row) (refused 13) }
+    {
+        let token = star_rows::word(names, star_rows::NAME_WIDTH, row, 1);
+        if self.compare(token, bytes)? {
+            Ok(row)
+        } else {
+            Err(Missing::NotFound)
+        }
+    }
+
+    // The answer of the nearest global block before a set that has the name or a row that points outside. Each name row is looked at once, since
+    // a search for each global block takes longer: `near` is the nearest so far, 0 for none, and `kept` its answer.
+    fn find_global(
+        &self,
+        sets: &[u32],
+        names: &[u32],
+        rows: u32,
+        set: u32,
+        bytes: &[u8],
+    ) -> Result<u32, Missing>
+        ensures { found_of result ≡ ask_globals sets.now (λ s. find_seek (is_asked names.now (record { width = name_width; first = s; parent = None }))
+            (named self.now names.now name_width) bytes.now rows 1) (set - 1) }
+    {
+        let mut near: u32 = 0;
+        let mut kept = Err(Missing::NotFound);
+        for row in 1..=rows {
+            let s = star_rows::word(names, star_rows::NAME_WIDTH, row, 0);
+            if !is_nearer(sets, s, near, set) {
+                continue;
+            }
+            let answer = self.row_answer(names, row, bytes);
+            if is_not_found(answer) {
+                continue;
+            }
+            near = s;
+            kept = answer;
+        }
+        kept
+    }
+}
+
+impl<'a, 'b> Lent<'a, 'b> {
+    // The file and its token rows.
+    pub fn contents(&self) -> Contents<'a, 'b>
+        ensures { result ≡ contents_of self.now }
+    {
+        Contents {
+            file: self.file,
+            tokens: self.tokens,
+            count: self.counts.tokens,
+        }
+    }
+
+    // Whether no count is larger than its table holds.
+    #[tactic(auto, unfolding(crate::specs::Find::counts_fit, crate::specs::Find::fits))]
+    fn counts_fit(&self) -> bool
+        ensures { result ≡ counts_fit (seen self.now) self.now.counts }
+    {
+        star_rows::fits(
+            self.counts.tokens,
+            star_rows::TOKEN_WIDTH,
+            self.tokens.len(),
+        ) && star_rows::fits(self.counts.sets, star_rows::SET_WIDTH, self.sets.len())
+            && star_rows::fits(self.counts.names, star_rows::NAME_WIDTH, self.names.len())
+            && star_rows::fits(
+                self.counts.packets,
+                star_rows::PACKET_WIDTH,
+                self.packets.len(),
+            )
+            && star_rows::fits(
+                self.counts.values,
+                star_rows::VALUE_WIDTH,
+                self.values.len(),
+            )
+    }
+
+    // Whether no count is larger than its table holds, and a row number is a row of so many.
+    #[tactic(auto, unfolding(crate::specs::Find::row_there))]
+    pub fn row_there(&self, count: u32, row: u32) -> bool
+        ensures { result ≡ row_there (seen self.now) self.now.counts count row }
+    {
+        self.counts_fit() && is_row(count, row)
+    }
+
+    // The first data block with this code.
+    #[tactic(auto, unfolding(crate::specs::Find::find_block, crate::specs::Find::look, crate::specs::Find::refused))]
+    pub fn find_block(&self, code: &[u8]) -> Result<u32, Missing>
+        ensures { found_of result ≡ find_block (seen self.now) self.now.counts code.now }
+    {
+        if !self.counts_fit() {
+            return Err(Missing::Outside);
+        }
+        let wanted = Wanted {
+            width: star_rows::SET_WIDTH,
+            first: 1,
+            parent: None,
         };
+        self.contents()
+            .seek(self.sets, self.counts.sets, wanted, code)
     }
-    find_global(file, tokens, count, sets, names, rows, set, bytes)
-}
 
-// The first name of a set with these bytes or, for a data block, of the nearest earlier global block that does not answer 13.
-pub fn find_name(
-    file: &[u8],
-    tokens: &[u32],
-    sets: &[u32],
-    names: &[u32],
-    packets: &[u32],
-    values: &[u32],
-    counts: Counts,
-    set: u32,
-    name: &[u8],
-) -> Found
-    ensures { result ≡ find_name (lent file.now tokens.now sets.now names.now packets.now
-        values.now) counts set name.now }
-{
-    if row_there(
-        file,
-        tokens,
-        sets,
-        names,
-        packets,
-        values,
-        counts,
-        counts.sets,
-        set,
-    ) {
-        seek_name(
-            file,
-            tokens,
-            counts.tokens,
-            sets,
-            names,
-            counts.names,
-            set,
-            name,
-        )
-    } else {
-        Found {
-            refusal: 14,
-            row: 0,
+    // The first frame of a set with this code.
+    #[tactic(auto, unfolding(crate::specs::Find::find_frame, crate::specs::Find::look, crate::specs::Find::refused))]
+    pub fn find_frame(&self, set: u32, code: &[u8]) -> Result<u32, Missing>
+        ensures { found_of result ≡ find_frame (seen self.now) self.now.counts set code.now }
+    {
+        if !self.row_there(self.counts.sets, set) {
+            return Err(Missing::Outside);
         }
+        let wanted = Wanted {
+            width: star_rows::SET_WIDTH,
+            first: 2,
+            parent: Some(set),
+        };
+        self.contents()
+            .seek(self.sets, self.counts.sets, wanted, code)
+    }
+
+    // The first name of a set with these bytes or, for a data block, of the nearest earlier global block that does not answer that there is none.
+    #[tactic(auto, unfolding(crate::specs::Find::find_name, crate::specs::Find::own_name, crate::specs::Find::look, crate::specs::Find::refused))]
+    pub fn find_name(&self, set: u32, name: &[u8]) -> Result<u32, Missing>
+        ensures { found_of result ≡ find_name (seen self.now) self.now.counts set name.now }
+    {
+        if !self.row_there(self.counts.sets, set) {
+            return Err(Missing::Outside);
+        }
+        let contents = self.contents();
+        let wanted = Wanted {
+            width: star_rows::NAME_WIDTH,
+            first: set,
+            parent: None,
+        };
+        let own = contents.seek(self.names, self.counts.names, wanted, name);
+        if !goes_on(self.sets, set, own) {
+            return own;
+        }
+        contents.find_global(self.sets, self.names, self.counts.names, set, name)
     }
 }

@@ -11,9 +11,10 @@ use lib.ListN.{length, get_or, set}
 use Rattle.star_text.specs.Bytes.{most_bytes}
 use Rattle.star_text.proofs.Cases.{cond-by, both}
 use Rattle.star_grammar.specs.Layout.{Track, outside, is_between, today_kind, pass_kind, track_at, today_kind_at}
-use Rattle.star_frames.specs.Frames.{has_rows, kind_of, retagged, closed_frames, open_kind, opened_frames}
+use Rattle.star_lex.specs.Room.{has_rows}
+use Rattle.star_frames.specs.Frames.{kind_of, retagged, closed_frames, open_kind, opened_frames}
 use Rattle.star_frames.specs.Tracked.{track_of, Tracks, Ready}
-use Rattle.star_frames.specs.declared.Progress.{Progress}
+use Rattle.star_frames.specs.declared.progress.Progress.{Progress}
 use Rattle.star_frames.proofs.Bounds.{track-bounded, bounded-up}
 use Rattle.star_frames.proofs.Retagging.{Retagged, retagged-by, retagged-length, retagged-later, retag-turn, retagged-is}
 

@@ -6,7 +6,8 @@ use Prim.Native.Nat.{ℕ}
 use borrow.Author.Tests.{eq-eqb, ne_eqb}
 use lib.Dec.{eqb}
 use lib.ListN.{length}
-use Rattle.star_frames.specs.Frames.{has_rows, retagged, closed_frames, opened_frames, as_today, from_today}
+use Rattle.star_lex.specs.Room.{has_rows}
+use Rattle.star_frames.specs.Frames.{retagged, closed_frames, opened_frames, as_today, from_today}
 use Rattle.star_frames.proofs.Closing.{closed-length}
 
 module _ (layout count : ℕ) (words : List ℕ) where

@@ -8,15 +8,15 @@ use lib.ListN.{length, get_or, take, set}
 use lib.Seq.{length-take-le, take-suc-set, take-set-lt, get_or-take}
 use Rattle.star_text.specs.Bytes.{most_bytes}
 use Rattle.star_grammar.specs.Layout.{one_more}
-use Rattle.star_frames.specs.Tracked.{track_of, Ready}
-use Rattle.star_frames.specs.declared.Progress.{Progress}
+use Rattle.star_frames.specs.Tracked.{part_of, level_of, filled_of, track_of, Ready}
+use Rattle.star_frames.specs.declared.progress.Progress.{Progress}
 
 module _ (p : Progress) (k : Ready p) where
   pub levels-is : length (take p.levels p.counts) ≡ p.levels
   levels-is = length-take-le p.levels p.counts (omega (arith, k.tracks.size, k.tracks.fits))
 
   -- in a loop there is a level
-  pub level_in : (p.part ≡ 0 → ⊥) → p.level < p.levels
+  pub level_in : (part_of p.part ≡ 0 → ⊥) → level_of p.part < p.levels
   unfolding track_of
   level_in h = omega (arith, k.bounded.level h, levels-is)
 
@@ -24,7 +24,7 @@ module _ (p : Progress) (k : Ready p) where
   unfolding track_of
   count-in i h = omega (arith, k.bounded.few i, get_or-take p.levels p.counts i 0 h)
 
-  pub filled_in : p.filled ≤ most_bytes
+  pub filled_in : filled_of p.part ≤ most_bytes
   unfolding track_of
   filled_in = k.bounded.filled
 

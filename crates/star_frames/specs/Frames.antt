@@ -1,12 +1,8 @@
 -- Table 1 of a row in the 1991 layout with the kinds of today's layout, and back. For contracts of `to_today`, `from_today`, `close_frames` and `open_frames`; what the kinds of today's layout are, star_grammar's specs/Layout.antt says.
-use Rattle.std.specs.Prelude.{Bool, cond, ◌&&◌, List, ℕ, zero, suc, ◌*◌, eqb, leb, length, get_or, set}
+use Rattle.std.specs.Prelude.{cond, List, ℕ, zero, suc, ◌*◌, eqb, length, get_or, set}
 use Rattle.star_rows.specs.Widths.{token_width}
-use Rattle.star_text.specs.Bytes.{most_bytes}
+use Rattle.star_lex.specs.Room.{has_rows}
 use Rattle.star_grammar.specs.Layout.{today_kind_at}
-
--- a table of so many words has that many rows of tokens, at most one for each byte that a file may have
-unfoldable pub has_rows : (count words : ℕ) → Bool
-has_rows count words = leb (count * token_width) words && leb count most_bytes
 
 -- the kind of the n-th row of a table, counted from 0
 abbrev pub kind_of : List ℕ → ℕ → ℕ

@@ -22,7 +22,7 @@ use Rattle.star_read.specs.Read.{Sizes, read_in, in_layout}
 use Rattle.star_read.proofs.InLayout.{in-today}
 use Rattle.star_find.specs.Find.{Lent, content_at, is_wanted, look, own_name, refused, row_there, ask_on, find_name}
 use Rattle.star_find.specs.Demands.{content_of}
-use Rattle.star_find.specs.declared.Counts.{Counts}
+use Rattle.star_rows.specs.declared.Counts.{Counts}
 use Rattle.star_find.proofs.Seeking.{Hit}
 use Rattle.star_find.proofs.After.{left, counted, lent-left, counts-counted, token-content, RowsAfter, reading-in, rows-after}
 use Rattle.star_find.proofs.Distinct.{one-row}

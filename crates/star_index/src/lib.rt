@@ -2,13 +2,16 @@
 #![tactic(auto)]
 
 ghost use Rattle.std.specs.Prelude.{◌≡◌, true, false, cond, ℕ, suc, ◌+◌, ◌-◌, ◌*◌, ◌≤◌, ◌<◌, eqb, ltb, length, get_or, set as list_set};
-ghost use Rattle.star_read.specs.Answer.{tables};
+ghost use Rattle.star_rows.specs.Tables.{Same};
+ghost use Rattle.star_read.specs.Answer.{held, answer_of};
 ghost use Rattle.star_slots.specs.Slots.{slot_at};
 ghost use Rattle.star_slots.specs.Inner.{table_home};
 ghost use Rattle.star_index.specs.Index.{JustOne, is_indexed, Checks};
 ghost use Rattle.star_index.specs.Inner.{run_start, in_run, slot_fits, slots_fit, mark as inner_mark, place_of, Unmarked, Marked, Apart, Cleaned};
 
-use star_read::Answer;
+use star_find::Contents;
+use star_rows::{Counts, Tables};
+use star_text::refusal::{Reason, Refusal};
 
 // The mark of a name row: above every token row.
 const MARK: u32 = 2147483648;
@@ -71,7 +74,16 @@ fn slot_fits(
     in_run(
         begin,
         last,
-        star_slots::home_at(file, tokens, count, names, slots, row),
+        star_slots::home_at(
+            &Contents {
+                file,
+                tokens,
+                count,
+            },
+            names,
+            slots,
+            row,
+        ),
         at,
     )
 }
@@ -208,27 +220,16 @@ fn is_indexed(
     once_each(names, rows, slots)
 }
 
-// Reads a file into the five tables and checks that the slots are an index of its names: else refusal 15. On a refusal the counts and every word of
-// every table are 0.
-pub fn check(
-    file: &[u8],
-    tokens: &mut [u32],
-    sets: &mut [u32],
-    names: &mut [u32],
-    packets: &mut [u32],
-    values: &mut [u32],
-    slots: &[u32],
-) -> Answer
-    ensures { Checks file.now slots.now
-        (tables tokens.old sets.old names.old packets.old values.old)
-        (tables tokens.new sets.new names.new packets.new values.new) result }
+// Reads a file into the five tables and checks that the slots are an index of its names: else refusal 15. On a refusal every word of every table is 0.
+pub fn check(file: &[u8], tables: &mut Tables, slots: &[u32]) -> Result<Counts, Refusal>
+    ensures checks { Checks file.now slots.now (held tables.old) (held tables.new) (answer_of result) }
+    ensures same { Same tables.old tables.new }
 {
-    let reading = star_read::read(file, tokens, sets, names, packets, values);
-    if reading.refusal != 0 {
-        return reading;
+    let counts = star_read::read(file, tables)?;
+    let tokens = &mut *tables.tokens;
+    let names = &mut *tables.names;
+    if is_indexed(file, tokens, counts.tokens, names, counts.names, slots) {
+        return Ok(counts);
     }
-    if is_indexed(file, tokens, reading.tokens, names, reading.names, slots) {
-        return reading;
-    }
-    star_read::refuse(tokens, sets, names, packets, values, 15, 0)
+    Err(star_read::refuse(tables, Reason::NoIndex, 0))
 }

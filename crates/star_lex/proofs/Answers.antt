@@ -17,8 +17,7 @@ use Rattle.star_lex.specs.Rules.{Rules, today}
 use Rattle.star_lex.specs.Tokens.{Placed, token_row}
 use Rattle.star_text.specs.Outcome.{refused, accepted, then, need}
 use Rattle.star_lex.specs.Split.{Split, split, tokens_by, tokens_of, placed}
-use Rattle.star_lex.specs.Answer.{tokens_fit, tokens_in_by, tokens_in, split_answer, table_of}
-use Rattle.star_lex.specs.declared.Tokens.{Tokens}
+use Rattle.star_lex.specs.Answer.{Tokens, tokens_fit, tokens_in_by, tokens_in, split_answer, table_of}
 use Rattle.star_lex.proofs.Cases.{impossible}
 use Rattle.star_lex.proofs.Splitting.{Faulty, split-refused, row-wide}
 

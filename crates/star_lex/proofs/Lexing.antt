@@ -18,9 +18,7 @@ use Rattle.star_text.proofs.Run.{run_take}
 use Rattle.star_lex.specs.Rules.{Rules, today}
 use Rattle.star_lex.specs.Tokens.{opening, data_word, save_word, loop_word, stop_word, global_word}
 use Rattle.star_lex.specs.Split.{Lexeme, gap, token, faulty, after, either, quoted, line_end, closes, close_length, field, white_next, limited, block_word, frame_word, alone, name_word, reference_word, word_lexeme, quoted_lexeme, field_lexeme}
-use Rattle.star_lex.specs.Answer.{scanned_at, end_of, word_answer}
-use Rattle.star_lex.specs.declared.Scanned.TheVariants.{Token as FoundToken, Fault}
-use Rattle.star_lex.specs.declared.word.Word.TheVariants.{Kind, Ill}
+use Rattle.star_lex.specs.Answer.{Token as FoundToken, Fault, Kind, Ill, scanned_at, end_of, word_answer}
 use Rattle.star_lex.proofs.Cases.{impossible}
 use Rattle.star_lex.proofs.LineEnds.{closes-first, closes-within}
 use Rattle.star_lex.proofs.Delimited.{quoted-some, field-some}

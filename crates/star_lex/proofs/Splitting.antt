@@ -19,8 +19,7 @@ use Rattle.star_lex.specs.Rules.{today}
 use Rattle.star_lex.specs.Tokens.{Token, Placed, opening, token_row}
 use Rattle.star_text.specs.Outcome.{refused, accepted, then}
 use Rattle.star_lex.specs.Split.{Lexeme, gap, token, faulty, Split, white_next, quoted, close_length, field, quoted_lexeme, field_lexeme, word_lexeme, word_from, lexeme, more_of, before, enter, split}
-use Rattle.star_lex.specs.Answer.{scanned_at}
-use Rattle.star_lex.specs.declared.Scanned.TheVariants.{Gap, Token as FoundToken, Fault}
+use Rattle.star_lex.specs.Answer.{Gap, Token as FoundToken, Fault, scanned_at}
 use Rattle.star_lex.proofs.Cases.{impossible, cond-by}
 use Rattle.star_lex.proofs.LineEnds.{closes-within}
 use Rattle.star_lex.proofs.Delimited.{quoted-some, field-some}
@@ -220,7 +219,7 @@ progress_start file table = record {
   inside = zero-le;
 }
 
-module _ (file table₀ table : List ℕ) (at count : ℕ) (line : Bool) (p : Progress file table₀ table at count line) (h : at < length file) where
+module _ {file table₀ table : List ℕ} {at count : ℕ} {line : Bool} (p : Progress file table₀ table at count line) (h : at < length file) where
   rest : List ℕ
   rest = drop (at + 1) file
 
@@ -239,10 +238,10 @@ module _ (file table₀ table : List ℕ) (at count : ℕ) (line : Bool) (p : Pr
   unfolding here rest
   room l e = subst (Within (length file - (at + 1))) e (rw (length-drop (at + 1) file) at (lexeme-within line (get_or file at 0) rest))
 
-  pub turn_gap : (next : ℕ) → scanned_at at (lexeme today line (get_or file at 0) (drop (at + 1) file)) ≡ Gap next
+  pub turn_gap : {next : ℕ} → scanned_at at (lexeme today line (get_or file at 0) (drop (at + 1) file)) ≡ Gap next
       → Progress file table₀ table next count (is_terminate (get_or file at 0)) × (at < next)
   unfolding here rest enter more_of
-  turn_gap next e =
+  turn_gap {next} e =
       let (m, q, r) = gap_of at next here e in
       let t : Bool = is_terminate (get_or file at 0) in (
         record {
@@ -256,11 +255,11 @@ module _ (file table₀ table : List ℕ) (at count : ℕ) (line : Bool) (p : Pr
         omega arith,
       )
 
-  pub turn-token : (k start end next : ℕ) → scanned_at at (lexeme today line (get_or file at 0) (drop (at + 1) file)) ≡ FoundToken k start end next
+  pub turn-token : {k start end next : ℕ} → scanned_at at (lexeme today line (get_or file at 0) (drop (at + 1) file)) ≡ FoundToken k start end next
       → Progress file table₀ (put_row (k ∷ start ∷ end ∷ []) count table) next (count + 1) (is_terminate (get_or file at 0))
       × (at < next) × (start ≤ length file) × (end ≤ length file)
   unfolding here rest enter more_of
-  turn-token k start end next e =
+  turn-token {k} {start} {end} {next} e =
       let f = token-of at k start end next here e in
       let t : Bool = is_terminate (get_or file at 0) in
       let q : Placed = record { at = at; token = f.found } in
@@ -285,13 +284,13 @@ module _ (file table₀ table : List ℕ) (at count : ℕ) (line : Bool) (p : Pr
         omega (arith, w.0, w.1, f.begins, f.ends),
       )
 
-  pub turn-fault : (n : ℕ) → scanned_at at (lexeme today line (get_or file at 0) (drop (at + 1) file)) ≡ Fault n → split today 0 true 0 file ≡ refused n at
+  pub turn-fault : {n : ℕ} → scanned_at at (lexeme today line (get_or file at 0) (drop (at + 1) file)) ≡ Fault n → split today 0 true 0 file ≡ refused n at
   unfolding here rest enter
-  turn-fault n e = after-here (faulty n) (fault-of at n here e) ∙ all-before-refused p.done n at
+  turn-fault {n} e = after-here (faulty n) (fault-of at n here e) ∙ all-before-refused p.done n at
 
 -- nothing is left
-pub finished : (file table₀ table : List ℕ) (at count : ℕ) (line : Bool) (p : Progress file table₀ table at count line) → length file ≤ at
+pub finished : {file table₀ table : List ℕ} {at count : ℕ} {line : Bool} (p : Progress file table₀ table at count line) → length file ≤ at
     → split today 0 true 0 file ≡ accepted p.done
 unfolding split
-finished file table₀ table at count line p h =
+finished {file} {at = at} {line = line} p h =
     p.so_far ∙ ap (λ r. all_before p.done (split today 0 line at r)) (drop_of_length-le file h) ∙ all-before-accepted p.done

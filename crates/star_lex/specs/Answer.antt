@@ -1,6 +1,6 @@
 -- What the functions of star_lex, star_scan and star_split answer, in terms of the split: refusals 1 and 7 before and after it, and the contract of `read_tokens` (`Splits`). For contracts: theirs and
 -- star_unique's; `read_by` begins with `tokens_in_by`.
-use Rattle.std.specs.Prelude.{◌≡◌, Bool, true, false, List, ℕ, ◌+◌, leb, length, replicate}
+use Rattle.std.specs.Prelude.{◌≡◌, Bool, true, false, List, ℕ, ◌+◌, leb, length, replicate, Result, Ok, Err}
 use Rattle.std.proofs.Math.Option.{Option, none, some}
 use Rattle.star_rows.specs.Widths.{token_width}
 use Rattle.star_text.specs.Bytes.{most_bytes}
@@ -9,11 +9,28 @@ use Rattle.star_lex.specs.Rules.{Rules, today}
 use Rattle.star_lex.specs.Tokens.{Placed, opening, token_row}
 use Rattle.star_text.specs.Outcome.{refused, accepted, then, need, refusal_of, place_of}
 use Rattle.star_lex.specs.Split.{Lexeme, gap, token, faulty, Split, tokens_by, placed}
-use Rattle.star_lex.specs.declared.Scanned.{Scanned}
-use Rattle.star_lex.specs.declared.Scanned.TheVariants.{Gap, Token as FoundToken, Fault}
-use Rattle.star_lex.specs.declared.Tokens.{Tokens}
-use Rattle.star_lex.specs.declared.word.Word.{Word}
-use Rattle.star_lex.specs.declared.word.Word.TheVariants.{Kind, Ill}
+use Rattle.star_lex.specs.declared.kind.Kind.{Kind as TokenKind}
+use Rattle.star_lex.specs.Kinds.{number}
+use Rattle.star_text.specs.Refusal.{number as reason_number}
+use Rattle.star_text.specs.declared.refusal.Reason.{Reason}
+use Rattle.star_text.specs.declared.refusal.Refusal.{Refusal}
+
+-- what splitting a file answers: refusal and place, both 0 when accepted, and the number of tokens
+pub record Tokens : Type 0 where
+  pub refusal : ℕ
+  pub place : ℕ
+  pub count : ℕ
+
+-- what stands at a place outside tokens: white space or a comment, with where it ends; a token; or a fault, a refusal
+pub data Scanned : Type 0 where
+  Gap : (next : ℕ) → Scanned
+  Token : (kind start end next : ℕ) → Scanned
+  Fault : (refusal : ℕ) → Scanned
+
+-- the kind of a word, or its refusal
+pub data Word : Type 0 where
+  Kind : (kind : ℕ) → Word
+  Ill : (refusal : ℕ) → Word
 
 -- 7 for table 1, of so many words
 unfoldable pub tokens_fit : (words : ℕ) → List Placed → Split
@@ -31,6 +48,11 @@ tokens_in file words = tokens_in_by today file words
 unfoldable pub split_answer : Split → Tokens
 split_answer s = record { refusal = refusal_of s; place = place_of s; count = length (placed s) }
 
+-- the number of tokens, or a refusal, as such an answer
+abbrev pub tokens_answer : Result ℕ Refusal → Tokens
+tokens_answer (Ok n) = record { refusal = 0; place = 0; count = n }
+tokens_answer (Err r) = record { refusal = reason_number r.reason; place = r.place; count = 0 }
+
 -- table 1, of so many words
 unfoldable pub table_of : Split → (words : ℕ) → List ℕ
 table_of (refused n place) words = replicate words 0
@@ -46,7 +68,7 @@ unfoldable pub scanned_at : ℕ → Lexeme → Scanned
 scanned_at at (gap more) = Gap (at + 1 + more)
 scanned_at at (token more t) =
     let start : ℕ = at + length (opening t.kind) in
-    FoundToken t.kind start (start + length t.content) (at + 1 + more)
+    Token t.kind start (start + length t.content) (at + 1 + more)
 scanned_at at (faulty n) = Fault n
 
 -- a content that begins at a place ends there; where there is none, at the end of the file
@@ -63,3 +85,8 @@ unfoldable pub word_answer : Lexeme → Word
 word_answer (gap more) = Ill 0
 word_answer (token more t) = Kind t.kind
 word_answer (faulty n) = Ill n
+
+-- a kind or a reason as such an answer
+abbrev pub word_found : Result TokenKind Reason → Word
+word_found (Ok kind) = Kind (number kind)
+word_found (Err reason) = Ill (reason_number reason)

@@ -1,3 +1,4 @@
+pub mod Kinds
 pub mod Rules
 pub mod Tokens
 pub mod Split
@@ -5,6 +6,7 @@ pub mod Plain
 pub mod Answer
 pub mod LineEnd
 pub mod Table
+pub mod Room
 pub mod Holds
 pub mod Fits
 pub mod Demands

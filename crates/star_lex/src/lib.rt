@@ -1,6 +1,8 @@
-// Table 1 of a STAR File: what a row of it says, and what splitting a file into tokens answers.
+// Table 1 of a STAR File: the kinds of tokens, and what a row of the table says.
 #![tactic(auto)]
 
+pub mod kind;
+pub mod rows;
 pub mod scan;
 pub mod word;
 
@@ -10,27 +12,6 @@ ghost use Rattle.star_lex.specs.Table.{content_in, or_empty, start_in, first_byt
 
 // The words of a row of table 1.
 const WIDTH: usize = star_rows::TOKEN_WIDTH as usize;
-
-// What splitting a file answers: refusal and place, both 0 when accepted, and the number of tokens.
-#[derive(Clone, Copy)]
-pub struct Tokens {
-    pub refusal: u32,
-    pub place: u32,
-    pub count: u32,
-}
-
-// What stands at a place outside tokens: white space or a comment, a token, or a fault.
-#[derive(Clone, Copy)]
-pub enum Scanned {
-    Gap(usize),
-    Token {
-        kind: u32,
-        start: usize,
-        end: usize,
-        next: usize,
-    },
-    Fault(u32),
-}
 
 // Whether table 1 has a row `n`, counted from 0, and that row spans a part of the file.
 pub fn has_content(file: &[u8], tokens: &[u32], n: usize) -> bool
@@ -71,8 +52,5 @@ pub fn first_byte(tokens: &[u32], n: usize) -> u32
     }
     let start = tokens[n * WIDTH + 1] as usize;
     let before = word::lead(tokens[n * WIDTH]);
-    if start < before {
-        return 0;
-    }
-    (start - before) as u32
+    start.saturating_sub(before) as u32
 }

@@ -6,9 +6,5 @@ ghost use Rattle.star_lex.specs.Split.{starts};
 pub fn byte_at(file: &[u8], at: usize, b: u8) -> bool
     ensures { result ≡ starts b (drop at file.now) }
 {
-    if at < file.len() {
-        file[at] == b
-    } else {
-        false
-    }
+    file.get(at).copied() == Some(b)
 }

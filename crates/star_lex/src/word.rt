@@ -1,31 +1,15 @@
-// The kind of a word, and what stands before the content of a token of a kind.
+// What stands before the content of a token of a kind.
 ghost use Rattle.std.specs.Prelude.{◌≡◌, length};
 ghost use Rattle.star_lex.specs.Tokens.{opening};
 
-// The kind of a word, or its refusal.
-#[derive(Clone, Copy)]
-pub enum Word {
-    Kind(u32),
-    Ill(u32),
-}
-
-// How many bytes of a token of this kind stand before its content.
+// How many bytes of a token stand before its content, by the number of its kind; 0 where no kind has the number.
+#[tactic(auto, unfolding(crate::specs::Tokens::opening, crate::specs::Tokens::data_word, crate::specs::Tokens::save_word))]
 pub fn lead(kind: u32) -> usize
     ensures { result ≡ length (opening kind) }
 {
-    if kind == 1 {
-        5
-    } else if kind == 2 {
-        5
-    } else if kind == 8 {
-        1
-    } else if kind == 9 {
-        1
-    } else if kind == 10 {
-        1
-    } else if kind == 11 {
-        1
-    } else {
-        0
+    match kind {
+        1 | 2 => 5,
+        8..=11 => 1,
+        _ => 0,
     }
 }

@@ -1,4 +1,3 @@
-pub mod Putting
 pub mod Decimal
 pub mod Lines
 pub mod Reading

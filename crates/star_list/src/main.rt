@@ -3,34 +3,19 @@
 
 mod listing;
 
-ghost use Rattle.std.specs.Prelude.{◌≡◌, IfSome, OnOk, length};
+ghost use Rattle.std.specs.Prelude.{IfSome, OnOk};
 ghost use Rattle.std.specs.Io.KnownBytes.{Appends};
 ghost use Rattle.star_list.specs.Listing.{listing_of};
 
+use crate::listing::write_listing;
 use std::io::{self, Read, Write};
-
-// Room for a file and one byte more.
-fn room() -> [u8; 8193]
-    ensures { 8193 ≡ length result }
-{
-    [0; 8193]
-}
-
-// Writes what the program prints for an input.
-fn write_listing<W: Write>(output: &mut W, input: &[u8]) -> io::Result<()>
-    ensures { OnOk result (Appends (W.contents output.old) (W.contents output.new) (listing_of input.now)) }
-{
-    let mut out: [u8; 8217] = [0; 8217];
-    let size = listing::listing(input, &mut out);
-    output.write_all(&out[..size])
-}
 
 // Reads an input, as much of it as tells what is printed, and writes that.
 fn run<R: Read, W: Write>(input: &mut R, output: &mut W) -> io::Result<()>
     ensures { OnOk result (IfSome (R.remaining input.old)
         (λ bytes. Appends (W.contents output.old) (W.contents output.new) (listing_of bytes))) }
 {
-    let mut file = room();
+    let mut file = [0; 8193];
     let count = star_input::read_full(input, &mut file)?;
     write_listing(output, &file[..count])
 }

@@ -3,25 +3,20 @@ use mathlib.Core.Path.{◌≡◌, refl, sym, ◌∙◌, ap}
 use mathlib.Core.Bool.{Bool, true, false, cond, ◌&&◌}
 use mathlib.Core.List.{List}
 use mathlib.Core.Option.{none, some}
-use Prim.Native.Nat.{ℕ, ◌+◌, ◌-◌, ◌≤◌, ◌<◌}
+use Prim.Native.Nat.{ℕ, ◌+◌, ◌≤◌, ◌<◌}
 use native.Mathlib.Numerals.{add-one}
 use native.Mathlib.Omega.{arith}
 use borrow.Author.Tests.{eq-eqb, ne_eqb, le-leb, lt-leb}
 use lib.Dec.{leb}
-use lib.ListN.{length, get_or, take, drop, drop_of_length-le, length-drop}
-use lib.Seq.{take_all, drop-cons, drop-drop}
+use lib.ListN.{length, get_or, drop, drop_of_length-le, length-drop}
+use lib.Seq.{drop-cons, drop-drop}
 use Rattle.star_text.specs.Bytes.{leading}
 use Rattle.star_text.proofs.Run.{run_length}
 use Rattle.star_number.specs.Pieces.{is_digit}
 use Rattle.star_number.specs.Number.{whole_number}
 use Rattle.star_number.specs.Taken.{is_single, bracket_at}
-use Rattle.star_number.specs.Held.{bracket_held, digits_held}
+use Rattle.star_number.specs.Held.{Absent, Digits, Bad, bracket_held, digits_held}
 use Rattle.star_number.specs.declared.scan.Run.{Run}
-use Rattle.star_number.specs.declared.Bracket.TheVariants.{Absent, Digits, Bad}
-
--- what is left of a list from a place on
-pub rest_all : (xs : List ℕ) (n : ℕ) → take (length xs - n) (drop n xs) ≡ drop n xs
-rest_all xs n = take_all (length xs - n) (drop n xs) (omega (arith, length-drop n xs))
 
 module _ (content : List ℕ) (at : ℕ) where
   pub bracket-absent : length content ≤ at → bracket_held (bracket_at (drop at content)) ≡ Absent

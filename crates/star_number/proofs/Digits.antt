@@ -5,10 +5,11 @@ use mathlib.Core.List.{List}
 use Prim.Native.Nat.{ℕ, suc, ◌+◌, ◌-◌, ◌*◌, ◌≤◌, ◌<◌}
 use native.Mathlib.Nat.{add-zero}
 use native.Mathlib.Numerals.{add-one}
-use lib.ListN.{length, get_or, drop, drop_of_length-le}
+use native.Mathlib.Omega.{arith}
+use lib.ListN.{length, get_or, drop, drop_of_length-le, length-drop}
 use lib.Seq.{drop-cons}
 use Rattle.star_text.specs.Bytes.{leading}
-use Rattle.star_text.proofs.Run.{run-goes}
+use Rattle.star_text.proofs.Run.{run-goes, run_length}
 use Rattle.star_number.specs.Pieces.{is_digit}
 use Rattle.star_number.specs.Number.{extended}
 use Rattle.star_number.specs.Held.{most_counted, counted, digits_held}
@@ -34,3 +35,9 @@ module _ (content : List ℕ) (n at : ℕ) where
   pub digits-end : length content ≤ at → n ≤ most_counted → digits_held n at (drop at content) ≡ record { end = at; value = n }
   unfolding digits_held leading extended
   digits-end h l = rw (drop_of_length-le content h) (run-same (add-zero at) (counted-small n l))
+
+-- digits lie within the content
+pub digits-within : (content : List ℕ) (value from : ℕ) (r : Run) → r ≡ digits_held value from (drop from content) → from ≤ length content
+    → (from ≤ r.end) × (r.end ≤ length content)
+unfolding digits_held
+digits-within content value from r q h = rw q (omega arith, omega (arith, run_length is_digit (drop from content), length-drop from content))

@@ -17,12 +17,10 @@ use Rattle.star_lex.specs.Table.{or_empty}
 use Rattle.star_number.specs.Pieces.{Sign, unsigned, plus, minus, sign_bytes, Exponent, fraction_bytes, exponent_bytes, bracket_bytes, bytes_of, is_digit, some_digits, digits_of, exponent_formed, bracket_formed, formed}
 use Rattle.star_number.specs.Number.{extended, whole_number, signed_whole, written, power}
 use Rattle.star_number.specs.Taken.{sign_at, after_sign, fraction_at, exponent_at, front}
-use Rattle.star_number.specs.Held.{counted, digits_held, fraction_held, is_minus, exponent_minus, exponent_whole, exponent_held, signed_by, power_held, front_held}
+use Rattle.star_number.specs.Held.{ExponentRun, Front, counted, digits_held, fraction_held, is_minus, exponent_minus, exponent_whole, exponent_held, signed_by, power_held, front_held}
 use Rattle.star_number.specs.declared.scan.Run.{Run}
 use Rattle.star_number.specs.declared.scan.FractionRun.{FractionRun}
-use Rattle.star_number.specs.declared.scan.ExponentRun.{ExponentRun}
-use Rattle.star_number.specs.declared.scan.Power.{Power}
-use Rattle.star_number.specs.declared.scan.Front.{Front}
+use Rattle.star_number.specs.declared.decimal.Power.{Power}
 use Rattle.star_number.proofs.Counting.{extended-append, counted-first}
 use Rattle.star_number.proofs.Powers.{held-counted}
 use Rattle.star_number.proofs.Held.{minus-at}

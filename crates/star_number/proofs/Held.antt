@@ -19,10 +19,9 @@ use Rattle.star_lex.proofs.Closing.{starts-end}
 use Rattle.star_number.specs.Pieces.{Sign, unsigned, plus, minus, sign_bytes, fraction_bytes, exponent_bytes, is_digit, is_letter, some_digits, exponent_formed}
 use Rattle.star_number.specs.Number.{extended, whole_number}
 use Rattle.star_number.specs.Taken.{sign_at, after_sign, fraction_at, exponent_at}
-use Rattle.star_number.specs.Held.{most_counted, digits_held, fraction_held, is_minus, letter_next, exponent_minus, exponent_whole, exponent_held}
+use Rattle.star_number.specs.Held.{ExponentRun, most_counted, digits_held, fraction_held, is_minus, letter_next, exponent_minus, exponent_whole, exponent_held}
 use Rattle.star_number.specs.declared.scan.Run.{Run}
 use Rattle.star_number.specs.declared.scan.FractionRun.{FractionRun}
-use Rattle.star_number.specs.declared.scan.ExponentRun.{ExponentRun}
 use Rattle.star_number.proofs.Counting.{counted-small}
 
 -- a byte that stands at a place stands inside
@@ -99,11 +98,13 @@ letter-inside content at e = by (starts 101 (drop at content)) refl (letter-next
     by true q f = inside 101 content at q
     by false q f = inside 69 content at (rw q at f)
 
-pub sign-length-le : (bs : List ℕ) → length (sign_bytes (sign_at bs)) ≤ 1
-unfolding sign_bytes
-sign-length-le bs = by (sign_at bs)
+-- a sign at the front of bytes is within them
+pub sign-within : (bs : List ℕ) → length (sign_bytes (sign_at bs)) ≤ length bs
+unfolding sign_bytes sign_at starts
+sign-within [] = omega arith
+sign-within (b ∷ bs) = by (sign_at (b ∷ bs))
   where
-    by : (s : Sign) → length (sign_bytes s) ≤ 1
+    by : (s : Sign) → length (sign_bytes s) ≤ suc (length bs)
     by unsigned = omega arith
     by plus = omega arith
     by minus = omega arith

@@ -1,5 +1,6 @@
 pub mod Apart
 pub mod Counting
+pub mod Answered
 pub mod Places
 pub mod Digits
 pub mod Ranges

@@ -8,7 +8,7 @@ use borrow.Author.Tests.{lt-ltb, le-ltb}
 use lib.Dec.{ltb}
 use lib.IntN.{pos, negsuc, neg_ℤ, ◌-ℤ◌, neg_ℤ-+ℤ}
 use Rattle.star_number.specs.Held.{most_counted, counted, signed_by, is_negative, power_held}
-use Rattle.star_number.specs.declared.scan.Power.{Power}
+use Rattle.star_number.specs.declared.decimal.Power.{Power}
 use Rattle.star_number.proofs.Counting.{order, counted-small, counted-most}
 
 abbrev held_as : Bool → ℕ → Power

@@ -4,17 +4,17 @@ use mathlib.Core.Bool.{Bool, true, false, cond, ◌&&◌}
 use mathlib.Core.List.{List}
 use mathlib.Core.Option.{Option, none, some}
 use Prim.Native.Nat.{ℕ, min}
+use Rattle.std.specs.Prelude.{Option as Answered, Some, None}
 use lib.IntN.{ℤ, nat_abs}
 use lib.ListN.{length, drop}
 use Rattle.star_number.specs.Pieces.{Sign, bytes_of, digits_of, formed}
 use Rattle.star_number.specs.Number.{whole_number, power, in_range, scaled, signed, number_over, number_of}
 use Rattle.star_number.specs.Taken.{front, bracket_at, with_bracket, taken, word_number}
-use Rattle.star_number.specs.Held.{counted, is_minus, is_negative, power_held, front_held, bracket_held, scaled_by, ten_to, beyond_power, float_held, bare_held, uncertain_held}
+use Rattle.star_number.specs.Held.{Front, Bracket, Absent, Digits, Bad, front_found, front_with, bracket_as, counted, is_minus, is_negative, power_held, front_held, bracket_held, scaled_by, ten_to, beyond_power, float_held, bare_held, uncertain_held}
 use Rattle.star_number.specs.declared.Number.{Number}
 use Rattle.star_number.specs.declared.Number.TheVariants.{Float, Uncertain, TooWide, Text}
-use Rattle.star_number.specs.declared.scan.Front.{Front}
-use Rattle.star_number.specs.declared.Bracket.{Bracket}
-use Rattle.star_number.specs.declared.Bracket.TheVariants.{Absent, Digits, Bad}
+use Rattle.star_number.specs.declared.decimal.Decimal.{Decimal}
+use Rattle.star_number.proofs.Answered.{missing, given}
 use Rattle.star_number.proofs.Ranges.{range_same, scaled-same, signed_same}
 
 -- the pieces before the bracket, held by their numbers
@@ -70,3 +70,28 @@ module _ (content : List ℕ) where
       by none = refl
       by (some none) = sym (bare-same _ (front content).sign (whole_number (digits_of (front content))) (power (front content)) _)
       by (some (some ds)) = sym (uncertain-same _ (front content).sign (whole_number (digits_of (front content))) (power (front content)) _ ds)
+
+-- by what `front_of` and `bracket_at` answer
+held-with : (f : Front) (d : Decimal) → record { negative = f.negative; digits = f.digits; power = record { over = f.over; tens = f.tens } } ≡ d
+    → (b : Bracket) → held_number f b ≡ held_number (front_with d 0) b
+unfolding held_number bare_held uncertain_held float_held
+held-with f d e Absent = rw (← e)
+held-with f d e (Digits digits) = rw (← e)
+held-with f d e Bad = refl
+
+module _ (content : List ℕ) where
+  pub word-missing : front_found (front_held content) ≡ None → word_number (taken content) ≡ Text
+  unfolding front_held
+  word-missing e = word-other content (missing _ _ e)
+
+  formed-as : (front_held content).ok ≡ true → formed (front content) ≡ true
+  unfolding front_held
+  formed-as e = e
+
+  pub word_found : (d : Decimal) (end : ℕ) (b : Answered (Answered ℕ)) → front_found (front_held content) ≡ Some (d, end)
+      → bracket_as b ≡ bracket_held (bracket_at (drop end content)) → word_number (taken content) ≡ held_number (front_with d 0) (bracket_as b)
+  word_found d end b e q =
+      let (formed, pair) = given _ _ (d, end) e in
+      word_held content (formed-as formed)
+      ∙ (ap (λ n. held_number (front_held content) (bracket_held (bracket_at (drop n content)))) (ap (λ p. p.1) pair)
+      ∙ (ap (held_number (front_held content)) (sym q) ∙ held-with (front_held content) d (ap (λ p. p.0) pair) (bracket_as b)))

@@ -1,5 +1,5 @@
 -- What the functions of star_number hold of the pieces of a content, and what they answer of that. The contracts of its inner functions cite it.
-use Rattle.std.specs.Prelude.{Bool, true, false, cond, ◌&&◌, List, [], ◌∷◌, ℕ, suc, ◌+◌, ◌^◌, min, ℤ, pos, negsuc, neg_ℤ, nat_abs, Float as F64, length}
+use Rattle.std.specs.Prelude.{Option as Answered, Some, None, Bool, true, false, cond, ◌&&◌, List, [], ◌∷◌, ℕ, suc, ◌+◌, ◌^◌, min, ℤ, pos, negsuc, neg_ℤ, nat_abs, Float as F64, length}
 use Rattle.std.proofs.Math.Option.{Option, none, some}
 use Rattle.std.specs.Float.{binary64}
 use Rattle.std.specs.Float.Ieee.{mul, div, neg}
@@ -10,13 +10,11 @@ use Rattle.star_number.specs.Number.{most_power, extended, whole_number, power, 
 use Rattle.star_number.specs.Taken.{front}
 use Rattle.star_number.specs.declared.Number.{Number}
 use Rattle.star_number.specs.declared.Number.TheVariants.{Float, Uncertain, TooWide}
+use Rattle.star_number.specs.declared.decimal.Power.{Power}
+use Rattle.star_number.specs.declared.decimal.Decimal.{Decimal}
 use Rattle.star_number.specs.declared.scan.Run.{Run}
 use Rattle.star_number.specs.declared.scan.FractionRun.{FractionRun}
-use Rattle.star_number.specs.declared.scan.ExponentRun.{ExponentRun}
-use Rattle.star_number.specs.declared.scan.Power.{Power}
-use Rattle.star_number.specs.declared.scan.Front.{Front}
-use Rattle.star_number.specs.declared.Bracket.{Bracket}
-use Rattle.star_number.specs.declared.Bracket.TheVariants.{Absent, Digits, Bad}
+use Rattle.star_number.specs.declared.scan.SignedRun.{SignedRun}
 
 -- whole numbers are counted up to here: above every limit, and more than a content has bytes
 abbrev pub most_counted : ℕ
@@ -51,6 +49,17 @@ unfoldable pub exponent_whole : Option Exponent → ℕ
 exponent_whole none = 0
 exponent_whole (some x) = whole_number x.digits
 
+-- an optional exponent: whether it is well formed, where it ends, its sign and its whole number
+pub record ExponentRun : Type 0 where
+  pub ok : Bool
+  pub end : ℕ
+  pub negative : Bool
+  pub value : ℕ
+
+-- as `exponent_at` answers it: none where it is not well formed
+abbrev pub exponent_found : ExponentRun → Answered SignedRun
+exponent_found x = cond x.ok (Some (record { end = x.end; negative = x.negative; value = x.value })) None
+
 unfoldable pub exponent_held : (at : ℕ) → Option Exponent → ExponentRun
 exponent_held at x =
     record { ok = exponent_formed x; end = at + length (exponent_bytes x); negative = exponent_minus x; value = counted (exponent_whole x) }
@@ -69,6 +78,23 @@ beyond_power = suc most_power
 unfoldable pub power_held : ℤ → Power
 power_held e = record { over = is_negative e; tens = min (nat_abs e) beyond_power }
 
+-- the pieces before the bracket: whether they are well formed, the sign, the digits as a whole number, the power of ten, and where they end
+pub record Front : Type 0 where
+  pub ok : Bool
+  pub negative : Bool
+  pub digits : ℕ
+  pub over : Bool
+  pub tens : ℕ
+  pub end : ℕ
+
+-- as `front_of` answers them: none where they are not well formed
+abbrev pub front_found : Front → Answered (Decimal × ℕ)
+front_found f = cond f.ok (Some (record { negative = f.negative; digits = f.digits; power = record { over = f.over; tens = f.tens } }, f.end)) None
+
+-- a decimal as such pieces that end at a place
+abbrev pub front_with : Decimal → (end : ℕ) → Front
+front_with d end = record { ok = true; negative = d.negative; digits = d.digits; over = d.power.over; tens = d.power.tens; end = end }
+
 unfoldable pub front_held : List ℕ → Front
 front_held content =
     let p : Pieces = front content in
@@ -80,6 +106,18 @@ front_held content =
       tens = (power_held (power p)).tens;
       end = length (bytes_of p);
     }
+
+-- what follows the other pieces of a number: nothing, digits in round brackets up to the end, or something else
+pub data Bracket : Type 0 where
+  Absent : Bracket
+  Digits : ℕ → Bracket
+  Bad : Bracket
+
+-- an answer of `bracket_at` as such
+abbrev pub bracket_as : Answered (Answered ℕ) → Bracket
+bracket_as None = Bad
+bracket_as (Some None) = Absent
+bracket_as (Some (Some digits)) = Digits digits
 
 unfoldable pub bracket_held : Option (Option (List ℕ)) → Bracket
 bracket_held none = Bad

@@ -1,20 +1,19 @@
 -- The sort of the next token by its number: a run's next step is that of the sort.
 use mathlib.Core.Path.{◌≡◌, refl, sym, ap, ◌∙◌}
-use mathlib.Core.Bool.{Bool, true, false, cond}
+use mathlib.Core.Bool.{Bool, true, false}
 use mathlib.Core.List.{List, [], ◌∷◌}
-use Prim.Native.Nat.{ℕ, zero, suc, ◌+◌, ◌-◌, ◌*◌, ◌≤◌, ◌<◌}
+use Prim.Native.Nat.{ℕ, ◌+◌, ◌-◌, ◌*◌, ◌≤◌, ◌<◌}
 use native.Mathlib.Omega.{arith}
 use lib.Dec.{eqb, ltb}
 use lib.ListN.{get_or, drop, drop_of_length-le}
 use lib.Seq.{drop-cons, drop-drop}
-use borrow.Author.Tests.{ne_eqb, ltb-true, ltb-false, eqb-true, eqb-false}
+use borrow.Author.Tests.{ltb-true, ltb-false, eqb-true, eqb-false}
 use Rattle.star_lex.specs.Rules.{Rules}
 use Rattle.star_lex.specs.Tokens.{Token}
-use Rattle.star_lex.proofs.Cases.{cond_cases}
 use Rattle.star_grammar.specs.Tables.{Rows}
 use Rattle.star_grammar.specs.Machine.{Sort, sort_of, State, step, end_run, run}
 use Rattle.star_parse.specs.Parsed.{kind_tokens}
-use Rattle.star_parse.specs.Reader.{sort_number, number_of, ahead, sort_at, SortAt, Ahead, block_kind_of, Headed}
+use Rattle.star_parse.specs.Reader.{sort_number, number_of, ahead, sort_at, Headed}
 use Rattle.star_grammar.proofs.Sorts.{OfSort, onward, run-sort}
 use Rattle.star_parse.proofs.RunKinds.{length-kinds, kind_at}
 
@@ -41,31 +40,6 @@ number-some Sort.stop = omega arith
 number-some Sort.name = omega arith
 number-some Sort.value = omega arith
 
--- the numbers of kinds
-pub sort-low : (kind : ℕ) → (kind ≡ 0 → ⊥) → kind < 7 → kind ≡ number_of kind
-unfolding sort_of sort_number number_of
-sort-low zero n h = absurd (n refl)
-sort-low (suc zero) n h = refl
-sort-low (suc (suc zero)) n h = refl
-sort-low (suc (suc (suc zero))) n h = refl
-sort-low (suc (suc (suc (suc zero)))) n h = refl
-sort-low (suc (suc (suc (suc (suc zero))))) n h = refl
-sort-low (suc (suc (suc (suc (suc (suc zero)))))) n h = refl
-sort-low (suc (suc (suc (suc (suc (suc (suc k))))))) n h = absurd (omega arith)
-
-pub sort-high : (kind : ℕ) → 7 ≤ kind → (kind ≡ 12 → ⊥) → 7 ≡ number_of kind
-unfolding sort_of sort_number number_of
-sort-high kind h n =
-    rw (
-      ne_eqb kind 1 (omega arith),
-      ne_eqb kind 2 (omega arith),
-      ne_eqb kind 3 (omega arith),
-      ne_eqb kind 4 (omega arith),
-      ne_eqb kind 5 (omega arith),
-      ne_eqb kind 6 (omega arith),
-      ne_eqb kind 12 n,
-    )
-
 -- a kind with the number of a sort is of that sort
 number-of : (kind : ℕ) (k : Sort) → number_of kind ≡ sort_number k → OfSort kind k
 unfolding number_of
@@ -90,22 +64,15 @@ pub drop-next : (ts : List Token) (at next : ℕ) → next ≡ at + 1 → drop 1
 drop-next ts at next e = drop-drop 1 at ts ∙ ap (λ n. drop n ts) (sym e)
 
 -- the sort at a place of the table
-sort-in : (count : ℕ) (words : List ℕ) (at : ℕ) → at < count → sort_at count words at ≡ number_of (get_or words (at * 3) 0)
+pub sort-in : (count : ℕ) (words : List ℕ) (at : ℕ) → at < count → sort_at count words at ≡ number_of (get_or words (at * 3) 0)
 unfolding ahead
 sort-in count words at h =
     let d : Token = record { kind = 0; content = [] } in
     ap ahead (drop-cons (kind_tokens count words) at d (rw length-kinds h)) ∙ ap number_of (kind_at count words at d h)
 
-sort-past : (count : ℕ) (words : List ℕ) (at : ℕ) → count ≤ at → sort_at count words at ≡ 0
+pub sort-past : (count : ℕ) (words : List ℕ) (at : ℕ) → count ≤ at → sort_at count words at ≡ 0
 unfolding ahead
 sort-past count words at h = ap ahead (drop_of_length-le (kind_tokens count words) {i = at} (rw length-kinds h))
-
--- the sort at a place, where one of the rows stands and past them
-pub sort-token : (count : ℕ) (words : List ℕ) (at sort : ℕ) → at < count → sort ≡ number_of (get_or words (at * 3) 0) → SortAt count words at sort
-sort-token count words at sort h e = record { is = e ∙ sym (sort-in count words at h); token = λ _. h }
-
-pub sort-end : (count : ℕ) (words : List ℕ) (at : ℕ) → count ≤ at → SortAt count words at 0
-sort-end count words at h = record { is = sym (sort-past count words at h); token = λ z. absurd (omega arith) }
 
 pub at-end : (count : ℕ) (words : List ℕ) (at : ℕ) → sort_at count words at ≡ 0 → count ≤ at
 unfolding number_of
@@ -114,10 +81,6 @@ at-end count words at e = go (ltb at count) refl
     go : (b : Bool) → ltb at count ≡ b → count ≤ at
     go true q = absurd (omega (arith, e, sort-in count words at (ltb-true at count q), number-some (sort_of (get_or words (at * 3) 0))))
     go false q = ltb-false at count q
-
--- what a test of the sort says
-pub ahead-is : (count : ℕ) (words : List ℕ) (at sort k : ℕ) → SortAt count words at sort → sort ≡ k → 0 < k → Ahead count words at k
-ahead-is count words at sort k s e h = record { is = sym s.is ∙ e; token = s.token (omega arith) }
 
 -- a sort that did not stand at a place stands only further on
 pub further-on : (count : ℕ) (words : List ℕ) (from to k : ℕ) → from ≤ to → (sort_at count words from ≡ k → ⊥) → sort_at count words to ≡ k → 0 < to - from
@@ -131,18 +94,3 @@ further-on count words from to k h f e = go (eqb from to) refl
 pub headed-token : {count : ℕ} {words : List ℕ} {at kind : ℕ} → Headed count words at kind → at < count
 headed-token (Headed.data_block a) = a.token
 headed-token (Headed.global_block a) = a.token
-
-pub headed : (count : ℕ) (words : List ℕ) (at sort kind : ℕ) → SortAt count words at sort → kind ≡ block_kind_of sort → (kind ≡ 0 → ⊥)
-    → Headed count words at kind
-unfolding block_kind_of
-headed count words at sort kind s e n =
-    cond_cases (eqb sort 1) 1 (cond (eqb sort 12) 3 0) kind (sym e)
-    (λ d q. rw (← q) (Headed.data_block (ahead-is count words at sort 1 s (eqb-true sort 1 d) (omega arith))))
-    (λ _ f. cond_cases (eqb sort 12) 3 0 kind f
-    (λ d q. rw (← q) (Headed.global_block (ahead-is count words at sort 12 s (eqb-true sort 12 d) (omega arith))))
-    (λ _ q. absurd (n (sym q))))
-
--- a sort that begins no block
-pub headless : (sort : ℕ) → block_kind_of sort ≡ 0 → (sort ≡ 1 → ⊥) × (sort ≡ 12 → ⊥)
-unfolding block_kind_of
-headless sort e = (λ q. omega (arith, sym e ∙ ap block_kind_of q), λ q. omega (arith, sym e ∙ ap block_kind_of q))

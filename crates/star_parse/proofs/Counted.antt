@@ -14,7 +14,7 @@ use Rattle.star_grammar.proofs.Linking.{no_value, length-linked, last-bound, lin
 use Rattle.star_grammar.proofs.Widths.{set-wide, name-wide, packet-wide, value-wide}
 use Rattle.star_parse.specs.Parsed.{FourTables, four_tables, Stored}
 use Rattle.star_parse.specs.Reader.{Fresh, Moved, RowPut, Matches, back_to}
-use Rattle.star_parse.specs.declared.progress.Progress.{Progress}
+use Rattle.star_parse.specs.Reached.{Progress}
 
 -- a row put at the count of the rows before it
 put-stored : {A : Type 0} (width : ℕ) (row : A → List ℕ) → ((x : A) → length (row x) ≡ width) → 0 < width → (xs : List A) (x : A) (n : ℕ) (ws before table after : List ℕ)

@@ -14,7 +14,7 @@ use Rattle.star_grammar.specs.Tables.{Rows, next, pass, open_loop, put_set, put_
 use Rattle.star_grammar.specs.Machine.{Sort, sort_of, Where, in_block, in_frame, set_of, Level, parent_of, State, start, within, named, header, body, go, between, filled, fill, value_at, header_step, no_value, no_value_at, body_step, start_step, named_step, step, Run, good, end_between, end_run, run}
 use Rattle.star_parse.specs.Parsed.{kind_tokens, FourTables, four_tables}
 use Rattle.star_parse.specs.Reader.{sort_number, number_of, ahead, Headed, Moved, Misplaced, RowPut, Matches, AtWith, ComesWith, Unvalued, At, Whole, name_at, back_to, Columns, Filling, partly}
-use Rattle.star_parse.specs.declared.progress.Progress.{Progress}
+use Rattle.star_parse.specs.Reached.{Progress}
 use Rattle.star_grammar.proofs.Sorts.{onward, run-alike}
 use Rattle.star_parse.proofs.Ahead.{run-ahead, run_end, drop-next}
 use Rattle.star_parse.proofs.Columns.{columns-pass, columns-packet, filling-none, filling-back, filling-more, item_back, item-more, named_more}

@@ -1,4 +1,5 @@
 pub mod Ahead
+pub mod Coded
 pub mod Columns
 pub mod Counted
 pub mod Going

@@ -14,7 +14,8 @@ use Rattle.star_lex.specs.Tokens.{Token, Placed, token_row}
 use Rattle.star_rows.specs.Rows.{holding}
 use Rattle.star_grammar.specs.Tables.{Rows, no_rows}
 use Rattle.star_grammar.specs.Machine.{State, Step, go, refuse, step_at, run, start}
-use Rattle.star_parse.specs.Parsed.{kind_tokens, has_rows, rows_run}
+use Rattle.star_lex.specs.Room.{has_rows}
+use Rattle.star_parse.specs.Parsed.{kind_tokens, rows_run}
 use Rattle.star_grammar.proofs.Sorts.{onward, run-onward}
 
 onward-kinds : (rules : Rules) (ts us : List Token) (r : Rows) → ((s : State) (r' : Rows) → run rules s ts r' ≡ run rules s us r')

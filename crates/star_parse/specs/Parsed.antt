@@ -1,22 +1,20 @@
 -- What reading the rows of tables 2 to 5 from the kinds of table 1 answers: what a run of the machine over those kinds gives. For the contract of `read_rows`.
-use Rattle.std.specs.Prelude.{◌≡◌, Bool, cond, ◌&&◌, List, [], ◌∷◌, ℕ, zero, suc, ◌*◌, leb, length, get_or, drop}
-use Rattle.star_rows.specs.Widths.{token_width, set_width, name_width, packet_width, value_width}
-use Rattle.star_text.specs.Bytes.{most_bytes}
+use Rattle.std.specs.Prelude.{◌≡◌, Bool, cond, List, [], ◌∷◌, ℕ, zero, suc, length, get_or, drop, Result, Ok, Err}
+use Rattle.star_rows.specs.Widths.{set_width, name_width, packet_width, value_width}
 use Rattle.star_lex.specs.Rules.{today, at_stops}
 use Rattle.star_lex.specs.Tokens.{Token}
 use Rattle.star_rows.specs.Rows.{stored}
 use Rattle.star_grammar.specs.Tables.{Rows, no_rows, set_words, name_words, packet_words, value_words}
 use Rattle.star_grammar.specs.Machine.{Run, bad, good, run, start}
-use Rattle.star_parse.specs.declared.Parsed.{Parsed}
+use Rattle.star_rows.specs.declared.Counts.{Counts}
+use Rattle.star_text.specs.Refusal.{number}
+use Rattle.star_lex.specs.Room.{has_rows}
+use Rattle.star_parse.specs.declared.Stopped.{Stopped}
 
 -- the tokens of a table of that many rows of kind, start and end: their kinds, and no contents, which no step reads
 unfoldable pub kind_tokens : ℕ → List ℕ → List Token
 kind_tokens zero words = []
 kind_tokens (suc n) words = record { kind = get_or words 0 0; content = [] } ∷ kind_tokens n (drop 3 words)
-
--- a table of so many words has that many rows of tokens, at most one for each byte that a file may have
-unfoldable pub has_rows : (count words : ℕ) → Bool
-has_rows count words = leb (count * token_width) words && leb count most_bytes
 
 -- the run over the first rows of a table, with header stops or without; 14 where it has not that many
 unfoldable pub rows_run : (stops : Bool) (count : ℕ) → List ℕ → Run
@@ -35,6 +33,19 @@ pub record Stored (before : FourTables) (rows : Rows) (after : FourTables) : Typ
   pub names : after.names ≡ stored name_width name_words rows.names before.names
   pub packets : after.packets ≡ stored packet_width packet_words rows.packets before.packets
   pub values : after.values ≡ stored value_width value_words rows.values before.values
+
+-- what reading answers: refusal, 0 when accepted; how many tokens stand before the bad one, or all of them; and the row counts
+pub record Parsed : Type 0 where
+  pub refusal : ℕ
+  pub tokens : ℕ
+  pub sets : ℕ
+  pub names : ℕ
+  pub packets : ℕ
+  pub values : ℕ
+
+abbrev pub parsed_of : Result Counts Stopped → Parsed
+parsed_of (Ok n) = record { refusal = 0; tokens = n.tokens; sets = n.sets; names = n.names; packets = n.packets; values = n.values }
+parsed_of (Err s) = record { refusal = number s.reason; tokens = s.tokens; sets = 0; names = 0; packets = 0; values = 0 }
 
 -- refused: the number, how many tokens stand before the bad one, and no rows; the tables are the caller's to clear
 pub record Refused (number place : ℕ) (r : Parsed) : Type 0 where

@@ -1,5 +1,5 @@
 -- What the reader's own functions say of each other: how far they have come in a run of the machine. For contracts of star_parse's inner functions.
-use Rattle.std.specs.Prelude.{◌≡◌, cond, ℕ, zero, suc, ◌+◌, ◌-◌, ◌*◌, ◌≤◌, ◌<◌, eqb, ltb, length, get_or, take, drop}
+use Rattle.std.specs.Prelude.{◌≡◌, Bool, true, false, Option, Some, None, cond, ℕ, zero, suc, ◌+◌, ◌-◌, ◌*◌, ◌≤◌, ◌<◌, ltb, length, get_or, take, drop}
 use mathlib.Core.List.{List, [], ◌∷◌, reverse_aux}
 use Rattle.star_text.specs.Bytes.{most_bytes}
 use Rattle.star_lex.specs.Rules.{Rules, today}
@@ -9,7 +9,8 @@ use Rattle.star_rows.specs.Rows.{put_row}
 use Rattle.star_grammar.specs.Tables.{Rows, linked, next}
 use Rattle.star_grammar.specs.Machine.{Sort, sort_of, Where, Level, parent_of, State, body, filled, Run, bad, good, run, last_row}
 use Rattle.star_parse.specs.Parsed.{kind_tokens, FourTables, Stored}
-use Rattle.star_parse.specs.declared.progress.Progress.{Progress}
+use Rattle.star_parse.specs.declared.progress.SetKind.{SetKind}
+use Rattle.star_parse.specs.Reached.{Progress, kind_number}
 use Rattle.star_parse.specs.declared.packets.LoopState.{LoopState}
 
 -- the number of a sort: its kind, 7 for values
@@ -36,29 +37,34 @@ ahead (t ∷ ts) = number_of t.kind
 abbrev pub sort_at : (count : ℕ) → List ℕ → (at : ℕ) → ℕ
 sort_at count words at = ahead (drop at (kind_tokens count words))
 
--- this is the number of the sort at a place, and a token stands there unless it is 0
-pub record SortAt (count : ℕ) (tokens : List ℕ) (at sort : ℕ) : Type 0 where
-  pub is : sort ≡ sort_at count tokens at
-  pub token : 0 < sort → at < count
-
 -- a token of this sort stands at a place
 pub record Ahead (count : ℕ) (tokens : List ℕ) (at sort : ℕ) : Type 0 where
   pub is : sort_at count tokens at ≡ sort
   pub token : at < count
+
+-- whether a token of this sort stands at a place
+pub record NextIs (count : ℕ) (tokens : List ℕ) (at sort : ℕ) (says : Bool) : Type 0 where
+  pub is : says ≡ true → Ahead count tokens at sort
+  pub not : says ≡ false → sort_at count tokens at ≡ sort → ⊥
 
 -- no entry begins at a place
 pub record NoEntry (count : ℕ) (tokens : List ℕ) (at : ℕ) : Type 0 where
   pub loop : sort_at count tokens at ≡ 4 → ⊥
   pub name : sort_at count tokens at ≡ 6 → ⊥
 
--- the kind of the block that a sort begins: 1 a data block, 3 a global block, 0 none
-unfoldable pub block_kind_of : (sort : ℕ) → ℕ
-block_kind_of sort = cond (eqb sort 1) 1 (cond (eqb sort 12) 3 0)
-
 -- what begins a block of this kind stands at a place
 pub data Headed (count : ℕ) (tokens : List ℕ) (at : ℕ) : (kind : ℕ) → Type 0 where
   data_block : Ahead count tokens at 1 → Headed count tokens at 1
   global_block : Ahead count tokens at 12 → Headed count tokens at 3
+
+-- the block that begins at a place, if one does
+pub record Headless (count : ℕ) (tokens : List ℕ) (at : ℕ) : Type 0 where
+  pub block : sort_at count tokens at ≡ 1 → ⊥
+  pub global : sort_at count tokens at ≡ 12 → ⊥
+
+abbrev pub HeadAt : (count : ℕ) (tokens : List ℕ) (at : ℕ) → Option SetKind → Type 0
+HeadAt count tokens at None = Headless count tokens at
+HeadAt count tokens at (Some kind) = Headed count tokens at (kind_number kind)
 
 -- before the first token
 pub record Fresh (r : Progress) : Type 0 where
@@ -80,15 +86,10 @@ pub record Moved (p : Progress) (token new_loop new_set new_name new_packet new_
   pub packets : r.packets ≡ p.packets + new_packet
   pub values : r.values ≡ p.values + new_value
 
--- the same progress but for a refusal at the next token
+-- refused at the next token
 pub record Misplaced (p : Progress) (number : ℕ) (r : Progress) : Type 0 where
   pub refusal : r.refusal ≡ number
   pub at : r.at ≡ p.at
-  pub loops : r.loops ≡ p.loops
-  pub sets : r.sets ≡ p.sets
-  pub names : r.names ≡ p.names
-  pub packets : r.packets ≡ p.packets
-  pub values : r.values ≡ p.values
 
 -- a row more in a table, as its count says, and the progress that counts it
 pub record RowPut (row : List ℕ) (count : ℕ) (before after : List ℕ) (Counted : Type 0) : Type 0 where
@@ -173,6 +174,9 @@ Comes rules tokens before outcome st p t = ComesWith rules tokens before outcome
 abbrev pub Leads : (rules : Rules) (count : ℕ) (tokens : List ℕ) → (from : State) → Progress → FourTables → (to : State) → Progress → FourTables → Type 0
 Leads rules count tokens from p t to r u = LeadsWith rules count tokens from Between p t to Between r u
 
+abbrev pub Passes : (rules : Rules) (count : ℕ) (tokens : List ℕ) → (from : State) → Progress → FourTables → (to : State) → Progress → FourTables → Type 0
+Passes rules count tokens from p t to r u = PassesWith rules count tokens from Between p t to Between r u
+
 -- what reading on answers: counts in bounds, at least so many tokens passed, and where reads come to
 pub record Onward (count : ℕ) (tokens : List ℕ) (least : ℕ) (r : Progress) (Goes : Type 0) : Type 0 where
   pub bounds : Bounds count tokens r
@@ -199,11 +203,11 @@ pub record Names (count : ℕ) (tokens : List ℕ) (p r : Progress) (Goes : Type
   pub last : sort_at count tokens r.at ≡ 6 → ⊥
   pub goes : Goes
 
--- what reading header stops, at most so many, answers: no name row is put, and no `stop_` comes next, or there were as many, unless one is refused
+-- what reading header stops, at most so many, answers, unless one is refused: no name row is put, and no `stop_` comes next, or there were as many
 pub record Stops (count : ℕ) (tokens : List ℕ) (inner : ℕ) (p r : Progress) (Goes : Type 0) : Type 0 where
   pub bounds : Bounds count tokens r
   pub further : p.at ≤ r.at
-  pub names : r.names ≡ p.names
+  pub names : r.refusal ≡ 0 → r.names ≡ p.names
   pub last : r.refusal ≡ 0 → sort_at count tokens r.at ≡ 5 → p.at + inner ≤ r.at
   pub goes : Goes
 

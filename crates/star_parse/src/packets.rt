@@ -3,10 +3,13 @@ ghost use Rattle.std.specs.Prelude.{◌≡◌, List, ◌∷◌, ℕ, ◌+◌, �
 ghost use Rattle.star_lex.specs.Rules.{Rules};
 ghost use Rattle.star_grammar.specs.Machine.{Where, Level, body, filled};
 ghost use Rattle.star_parse.specs.Parsed.{FourTables, four_tables};
+ghost use Rattle.star_parse.specs.Reached.{going, reached};
 ghost use Rattle.star_parse.specs.Reader.{sort_at, Ahead, Ready, Onward, LeadsWith, InLoop, Around, name_at, back_to, Columns, Filling, inner_of, level_of, deeper_of, at_level, partly};
 
-use crate::progress;
-use crate::progress::Progress;
+use crate::Stopped;
+use crate::progress::{Progress, next_is};
+use star_grammar::sort::Sort;
+use star_text::refusal::Reason;
 
 // The most levels that a loop may have.
 pub const LEVELS: usize = 8;
@@ -30,16 +33,14 @@ fn deeper(s: LoopState, packet: u32) -> LoopState
     requires level_bound { s.level + 1 < s.levels }
     ensures { result ≡ deeper_of s packet }
 {
-    let counts = s.counts;
     let level = s.level + 1;
     LoopState {
-        counts,
-        levels: s.levels,
         level,
-        names: counts[level],
+        names: s.counts[level],
         filled: 0,
         first: s.first + s.names,
         parent: packet,
+        ..s
     }
 }
 
@@ -65,35 +66,30 @@ fn read_values(
     back: u32,
     p: Progress,
     values: &mut [u32],
-) -> Progress
-    requires ready { Ready count tokens.now p }
+) -> Result<Progress, Stopped>
+    requires ready { Ready count tokens.now (going p) }
     requires in_loop { InLoop s }
     requires filled_nonzero { 0 < s.filled }
     requires filled_bound { s.filled ≤ get_or s.counts s.level 0 }
     requires back_le_values { back ≤ p.values }
-    ensures onward { Onward count tokens.now p.at result
+    ensures onward { Onward count tokens.now p.at (reached result)
         ((rules : Rules) (w : Where) (outer : List Level) (base : ℕ) (began sets names packets : List ℕ) → s.first ≡ name_at base s.counts s.level
         → back ≡ back_to (get_or began s.level 0) (p.values - s.filled)
         → LeadsWith rules count tokens.now
-        (partly w outer (level_of s packet) (inner_of s) s.filled) (Filling base s.counts s.levels s.level s.filled began) p
+        (partly w outer (level_of s packet) (inner_of s) s.filled) (Filling base s.counts s.levels s.level s.filled began) (going p)
         (four_tables sets names packets values.old)
-        (filled w outer (level_of s packet) (inner_of s)) (Filling base s.counts s.levels s.level (get_or s.counts s.level 0) began) result
+        (filled w outer (level_of s packet) (inner_of s)) (Filling base s.counts s.levels s.level (get_or s.counts s.level 0) began) (reached result)
         (four_tables sets names packets values.new)) }
-    ensures filled_value { result.refusal ≡ 0 → result.values + s.filled ≡ p.values + get_or s.counts s.level 0 }
+    ensures filled_value { (reached result).refusal ≡ 0 → (reached result).values + s.filled ≡ p.values + get_or s.counts s.level 0 }
 {
-    let mut s = s;
     let mut p = p;
-    let names = s.names;
-    let first = s.first;
-    while s.filled < names {
-        let sort = progress::sort_at(tokens, count, p.at);
-        if sort != progress::VALUE {
-            return progress::misplaced(p, progress::INCOMPLETE);
+    for filled in s.filled..s.names {
+        if !next_is(tokens, count, p.at, Sort::Value) {
+            return Err(p.stop(Reason::Incomplete));
         }
-        p = progress::put_value(p, first + s.filled, packet, back, values);
-        s.filled = s.filled + 1;
+        p = p.put_value(s.first + filled, packet, back, values);
     }
-    p
+    Ok(p)
 }
 
 // A packet's row and its own values, one for each name of its level. A value comes next. `began` has for each level the value row at which its last
@@ -106,44 +102,45 @@ fn read_own(
     began: &mut [u32],
     packets: &mut [u32],
     values: &mut [u32],
-) -> Progress
-    requires ready { Ready count tokens.now p }
+) -> Result<Progress, Stopped>
+    requires ready { Ready count tokens.now (going p) }
     requires ahead { Ahead count tokens.now p.at 7 }
     requires in_loop { InLoop s }
     requires filled_value { s.filled ≡ 0 }
     requires began_len { length began.old ≡ 8 }
-    ensures { Onward count tokens.now (p.at + 1) result
+    ensures { Onward count tokens.now (p.at + 1) (reached result)
         ((rules : Rules) (w : Where) (outer : List Level) (base : ℕ) (sets names : List ℕ) → Around s outer base
-        → LeadsWith rules count tokens.now (at_level w outer s) (Columns base s.counts s.levels began.old) p
+        → LeadsWith rules count tokens.now (at_level w outer s) (Columns base s.counts s.levels began.old) (going p)
         (four_tables sets names packets.old values.old)
-        (filled w outer (level_of s (p.packets + 1)) (inner_of s)) (Columns base s.counts s.levels began.new) result
+        (filled w outer (level_of s (p.packets + 1)) (inner_of s)) (Columns base s.counts s.levels began.new) (reached result)
         (four_tables sets names packets.new values.new)) }
 {
     let level = s.level;
     let back = back_to(began[level], p.values);
     began[level] = p.values + 1;
-    let p = progress::put_packet(p, (s.level + 1) as u32, s.parent, packets);
+    let p = p.put_packet((s.level + 1) as u32, s.parent, packets);
     let packet = p.packets;
-    let p = progress::put_value(p, s.first + s.filled, packet, back, values);
-    let mut begun = s;
-    begun.filled = s.filled + 1;
+    let p = p.put_value(s.first + s.filled, packet, back, values);
+    let begun = LoopState {
+        filled: s.filled + 1,
+        ..s
+    };
     read_values(tokens, count, begun, packet, back, p, values)
 }
 
 // The `stop_` of an inner level, where no value comes.
-fn read_stop(tokens: &[u32], count: usize, p: Progress) -> Progress
-    requires ready { Ready count tokens.now p }
+fn read_stop(tokens: &[u32], count: usize, p: Progress) -> Result<Progress, Stopped>
+    requires ready { Ready count tokens.now (going p) }
     requires fact { sort_at count tokens.now p.at ≡ 7 → ⊥ }
-    ensures { Onward count tokens.now p.at result
+    ensures { Onward count tokens.now p.at (reached result)
         ((rules : Rules) (w : Where) (around l : Level) (outer : List Level) (inner : List ℕ) (t : FourTables) (base : ℕ) (counts : List ℕ) (levels : ℕ) (began : List ℕ)
-        → LeadsWith rules count tokens.now (body w (around ∷ outer) l inner 0) (Columns base counts levels began) p t
-        (body w outer around (l.names ∷ inner) 0) (Columns base counts levels began) result t) }
+        → LeadsWith rules count tokens.now (body w (around ∷ outer) l inner 0) (Columns base counts levels began) (going p) t
+        (body w outer around (l.names ∷ inner) 0) (Columns base counts levels began) (reached result) t) }
 {
-    let sort = progress::sort_at(tokens, count, p.at);
-    if sort == progress::STOP {
-        progress::passed(p)
+    if next_is(tokens, count, p.at, Sort::Stop) {
+        Ok(p.passed())
     } else {
-        progress::misplaced(p, progress::INCOMPLETE)
+        Err(p.stop(Reason::Incomplete))
     }
 }
 
@@ -157,49 +154,33 @@ fn read_packet(
     began: &mut [u32],
     packets: &mut [u32],
     values: &mut [u32],
-) -> Progress
-    requires ready { Ready count tokens.now p }
+) -> Result<Progress, Stopped>
+    requires ready { Ready count tokens.now (going p) }
     requires ahead { Ahead count tokens.now p.at 7 }
     requires in_loop { InLoop s }
     requires filled_value { s.filled ≡ 0 }
     requires began_len { length began.old ≡ 8 }
-    ensures { Onward count tokens.now (p.at + 1) result
+    ensures { Onward count tokens.now (p.at + 1) (reached result)
         ((rules : Rules) (w : Where) (outer : List Level) (base : ℕ) (sets names : List ℕ) → Around s outer base
-        → LeadsWith rules count tokens.now (at_level w outer s) (Columns base s.counts s.levels began.old) p
+        → LeadsWith rules count tokens.now (at_level w outer s) (Columns base s.counts s.levels began.old) (going p)
         (four_tables sets names packets.old values.old)
-        (at_level w outer s) (Columns base s.counts s.levels began.new) result
+        (at_level w outer s) (Columns base s.counts s.levels began.new) (reached result)
         (four_tables sets names packets.new values.new)) }
 {
     let packet = p.packets + 1;
-    let own = read_own(tokens, count, s, p, began, packets, values);
-    if own.refusal != 0 {
-        return own;
-    }
+    let own = read_own(tokens, count, s, p, began, packets, values)?;
     if s.level + 1 == s.levels {
-        return own;
+        return Ok(own);
     }
-    // made here, since what is handed on to a call is kept in memory
-    let inside = Progress {
-        refusal: own.refusal,
-        at: own.at,
-        loops: own.loops,
-        sets: own.sets,
-        names: own.names,
-        packets: own.packets,
-        values: own.values,
-    };
     let p = read_level(
         tokens,
         count,
         deeper(s, packet),
-        inside,
+        own,
         began,
         packets,
         values,
-    );
-    if p.refusal != 0 {
-        return p;
-    }
+    )?;
     read_stop(tokens, count, p)
 }
 
@@ -213,25 +194,22 @@ pub(crate) fn read_level(
     began: &mut [u32],
     packets: &mut [u32],
     values: &mut [u32],
-) -> Progress
-    requires ready { Ready count tokens.now p }
+) -> Result<Progress, Stopped>
+    requires ready { Ready count tokens.now (going p) }
     requires in_loop { InLoop s }
     requires filled_value { s.filled ≡ 0 }
     requires began_len { length began.old ≡ 8 }
-    ensures onward { Onward count tokens.now p.at result
+    ensures onward { Onward count tokens.now p.at (reached result)
         ((rules : Rules) (w : Where) (outer : List Level) (base : ℕ) (sets names : List ℕ) → Around s outer base
-        → LeadsWith rules count tokens.now (at_level w outer s) (Columns base s.counts s.levels began.old) p
+        → LeadsWith rules count tokens.now (at_level w outer s) (Columns base s.counts s.levels began.old) (going p)
         (four_tables sets names packets.old values.old)
-        (at_level w outer s) (Columns base s.counts s.levels began.new) result
+        (at_level w outer s) (Columns base s.counts s.levels began.new) (reached result)
         (four_tables sets names packets.new values.new)) }
-    ensures fact { result.refusal ≡ 0 → sort_at count tokens.now result.at ≡ 7 → ⊥ }
+    ensures fact { (reached result).refusal ≡ 0 → sort_at count tokens.now (reached result).at ≡ 7 → ⊥ }
 {
     let mut p = p;
-    while p.refusal == 0 {
-        if progress::sort_at(tokens, count, p.at) != progress::VALUE {
-            return p;
-        }
-        p = read_packet(tokens, count, s, p, began, packets, values);
+    while next_is(tokens, count, p.at, Sort::Value) {
+        p = read_packet(tokens, count, s, p, began, packets, values)?;
     }
-    p
+    Ok(p)
 }

@@ -1,51 +1,29 @@
-// How far a read has come, the sort of the next token, and the rows that tokens make.
-ghost use Rattle.std.specs.Prelude.{◌≡◌, [], ◌∷◌, ◌+◌, ◌-◌, ◌*◌, ◌≤◌, length};
+// How far a read has come, what comes next, and the rows that tokens make.
+ghost use Rattle.std.specs.Prelude.{◌≡◌, [], ◌∷◌, ◌+◌, ◌-◌, ◌*◌, ◌≤◌, Err, length};
 ghost use Rattle.star_rows.specs.Widths.{token_width, value_width};
 ghost use Rattle.star_rows.specs.Rows.{put_row, put_word};
-ghost use Rattle.star_parse.specs.Reader.{number_of, SortAt, block_kind_of, Fresh, CountRoom, Moved, Misplaced, RowPut};
+ghost use Rattle.star_text.specs.Refusal.{number};
+ghost use Rattle.star_parse.specs.Reached.{going, reached, coded, kind_number};
+ghost use Rattle.star_parse.specs.Reader.{NextIs, HeadAt, Fresh, CountRoom, Moved, Misplaced, RowPut};
+
+use crate::Stopped;
+use star_grammar::sort::Sort;
+use star_text::refusal::Reason;
 
 // The words of a row of table 1.
 const WIDTH: usize = star_rows::TOKEN_WIDTH as usize;
 
-// The sorts of tokens: the kind, 7 for every value, and 0 for the end.
-pub const END: u32 = 0;
+// The kinds of sets, by the numbers that table 2 has for them.
+#[derive(Clone, Copy)]
+pub enum SetKind {
+    DataBlock = 1,
+    SaveFrame = 2,
+    GlobalBlock = 3,
+}
 
-pub const BLOCK: u32 = 1;
-
-pub const FRAME: u32 = 2;
-
-pub const FRAME_END: u32 = 3;
-
-pub const LOOP: u32 = 4;
-
-pub const STOP: u32 = 5;
-
-pub const NAME: u32 = 6;
-
-pub const VALUE: u32 = 7;
-
-pub const GLOBAL: u32 = 12;
-
-// The kinds of sets.
-pub const DATA_BLOCK: u32 = 1;
-
-pub const SAVE_FRAME: u32 = 2;
-
-pub const GLOBAL_BLOCK: u32 = 3;
-
-// The numbers of refusal: out of place; no value in a packet that is not full, or no `stop_` in an open inner level; level 9; a header stop where there are none.
-pub const OUT_OF_PLACE: u32 = 8;
-
-pub const INCOMPLETE: u32 = 10;
-
-pub const TOO_DEEP: u32 = 11;
-
-pub const RETIRED: u32 = 16;
-
-// The refusal, 0 while there is none; the tokens and loops passed; the rows so far.
+// The tokens and loops passed; the rows so far.
 #[derive(Clone, Copy)]
 pub struct Progress {
-    pub refusal: u32,
     pub at: u32,
     pub loops: u32,
     pub sets: u32,
@@ -54,135 +32,141 @@ pub struct Progress {
     pub values: u32,
 }
 
-// Before the first token.
-pub(crate) fn begin() -> Progress
-    ensures { Fresh result }
-{
-    Progress {
-        refusal: 0,
-        at: 0,
-        loops: 0,
-        sets: 0,
-        names: 0,
-        packets: 0,
-        values: 0,
-    }
-}
-
-// The sort of a kind of token.
-fn sort_of(kind: u32) -> u32
-    ensures { result ≡ number_of kind }
-{
-    if kind == GLOBAL {
-        GLOBAL
-    } else if kind == 0 {
-        VALUE
-    } else if kind < VALUE {
-        kind
-    } else {
-        VALUE
-    }
-}
-
-// The sort of the token at a place, or the end.
-pub(crate) fn sort_at(tokens: &[u32], count: usize, at: u32) -> u32
+// Whether a token of this sort stands at a place.
+pub(crate) fn next_is(tokens: &[u32], count: usize, at: u32, sort: Sort) -> bool
     requires { count * token_width ≤ length tokens.now }
-    ensures { SortAt count tokens.now at result }
+    ensures { NextIs count tokens.now at (coded sort) result }
 {
     let row = at as usize;
-    if row < count {
-        let word = row * WIDTH;
-        sort_of(tokens[word])
-    } else {
-        END
+    row < count && Sort::from(tokens[row * WIDTH]) == sort
+}
+
+// The kind of the block that begins at a place, none where none begins.
+pub(crate) fn block_kind(tokens: &[u32], count: usize, at: u32) -> Option<SetKind>
+    requires { count * token_width ≤ length tokens.now }
+    ensures { HeadAt count tokens.now at result }
+{
+    if next_is(tokens, count, at, Sort::Block) {
+        return Some(SetKind::DataBlock);
     }
-}
-
-// The kind of the block that a sort begins, 0 where it begins none.
-pub(crate) fn block_kind(sort: u32) -> u32
-    ensures { result ≡ block_kind_of sort }
-{
-    if sort == BLOCK {
-        DATA_BLOCK
-    } else if sort == GLOBAL {
-        GLOBAL_BLOCK
-    } else {
-        0
+    if next_is(tokens, count, at, Sort::Global) {
+        return Some(SetKind::GlobalBlock);
     }
+    None
 }
 
-// Refused with this number at the next token.
-pub(crate) fn misplaced(p: Progress, number: u32) -> Progress
-    ensures { Misplaced p number result }
-{
-    let mut q = p;
-    q.refusal = number;
-    q
-}
+impl Progress {
+    // Before the first token.
+    pub(crate) fn begin() -> Progress
+        ensures { Fresh (going result) }
+    {
+        Progress {
+            at: 0,
+            loops: 0,
+            sets: 0,
+            names: 0,
+            packets: 0,
+            values: 0,
+        }
+    }
 
-// Past a token that makes no row.
-pub(crate) fn passed(p: Progress) -> Progress
-    requires { CountRoom p }
-    ensures { Moved p 1 0 0 0 0 0 result }
-{
-    let mut q = p;
-    q.at = p.at + 1;
-    q
-}
+    // Refused for this reason at the next token.
+    pub(crate) fn stop(self, reason: Reason) -> Stopped
+        ensures { Misplaced (going self) (number reason) (reached (Err result)) }
+    {
+        Stopped {
+            reason,
+            tokens: self.at,
+        }
+    }
 
-// Past a `loop_` that begins a loop.
-pub(crate) fn opened(p: Progress) -> Progress
-    requires { CountRoom p }
-    ensures { Moved p 1 1 0 0 0 0 result }
-{
-    let mut q = p;
-    q.at = p.at + 1;
-    q.loops = p.loops + 1;
-    q
-}
+    // Past a token that makes no row.
+    pub(crate) fn passed(self) -> Progress
+        requires { CountRoom (going self) }
+        ensures { Moved (going self) 1 0 0 0 0 0 (going result) }
+    {
+        Progress {
+            at: self.at + 1,
+            ..self
+        }
+    }
 
-// Past a heading: the row of its set.
-pub(crate) fn put_set(p: Progress, kind: u32, parent: u32, sets: &mut [u32]) -> Progress
-    requires { CountRoom p }
-    ensures { RowPut (kind ∷ (p.at + 1) ∷ parent ∷ []) p.sets sets.old sets.new (Moved p 1 0 1 0 0 0 result) }
-{
-    let row = p.sets as usize;
-    star_rows::put3(sets, row, kind, p.at + 1, parent);
-    let mut q = p;
-    q.at = p.at + 1;
-    q.sets = p.sets + 1;
-    q
-}
+    // Past a `loop_` that begins a loop.
+    pub(crate) fn opened(self) -> Progress
+        requires { CountRoom (going self) }
+        ensures { Moved (going self) 1 1 0 0 0 0 (going result) }
+    {
+        Progress {
+            at: self.at + 1,
+            loops: self.loops + 1,
+            ..self
+        }
+    }
 
-// Past a name: its row.
-pub(crate) fn put_name(
-    p: Progress,
-    set: u32,
-    number: u32,
-    level: u32,
-    names: &mut [u32],
-) -> Progress
-    requires { CountRoom p }
-    ensures { RowPut (set ∷ (p.at + 1) ∷ number ∷ level ∷ []) p.names names.old names.new (Moved p 1 0 0 1 0 0 result) }
-{
-    let row = p.names as usize;
-    star_rows::put4(names, row, set, p.at + 1, number, level);
-    let mut q = p;
-    q.at = p.at + 1;
-    q.names = p.names + 1;
-    q
-}
+    // Past a heading: the row of its set.
+    pub(crate) fn put_set(self, kind: SetKind, parent: u32, sets: &mut [u32]) -> Progress
+        requires { CountRoom (going self) }
+        ensures { RowPut (kind_number kind ∷ (self.at + 1) ∷ parent ∷ []) self.sets sets.old sets.new (Moved (going self) 1 0 1 0 0 0 (going result)) }
+    {
+        star_rows::put_row(sets, self.sets as usize, [kind as u32, self.at + 1, parent]);
+        Progress {
+            at: self.at + 1,
+            sets: self.sets + 1,
+            ..self
+        }
+    }
 
-// Before the first value of a packet: the packet's row.
-pub(crate) fn put_packet(p: Progress, level: u32, parent: u32, packets: &mut [u32]) -> Progress
-    requires { CountRoom p }
-    ensures { RowPut (p.loops ∷ level ∷ parent ∷ []) p.packets packets.old packets.new (Moved p 0 0 0 0 1 0 result) }
-{
-    let row = p.packets as usize;
-    star_rows::put3(packets, row, p.loops, level, parent);
-    let mut q = p;
-    q.packets = p.packets + 1;
-    q
+    // Past a name: its row.
+    pub(crate) fn put_name(self, set: u32, number: u32, level: u32, names: &mut [u32]) -> Progress
+        requires { CountRoom (going self) }
+        ensures { RowPut (set ∷ (self.at + 1) ∷ number ∷ level ∷ []) self.names names.old names.new (Moved (going self) 1 0 0 1 0 0 (going result)) }
+    {
+        star_rows::put_row(
+            names,
+            self.names as usize,
+            [set, self.at + 1, number, level],
+        );
+        Progress {
+            at: self.at + 1,
+            names: self.names + 1,
+            ..self
+        }
+    }
+
+    // Before the first value of a packet: the packet's row.
+    pub(crate) fn put_packet(self, level: u32, parent: u32, packets: &mut [u32]) -> Progress
+        requires { CountRoom (going self) }
+        ensures { RowPut (self.loops ∷ level ∷ parent ∷ []) self.packets packets.old packets.new (Moved (going self) 0 0 0 0 1 0 (going result)) }
+    {
+        star_rows::put_row(packets, self.packets as usize, [self.loops, level, parent]);
+        Progress {
+            packets: self.packets + 1,
+            ..self
+        }
+    }
+
+    // Past a value: its row, which leads to none, and the row so many before it, which leads to it; with 0 there is no such row.
+    pub(crate) fn put_value(self, name: u32, packet: u32, back: u32, values: &mut [u32]) -> Progress
+        requires count_room { CountRoom (going self) }
+        requires back_le_values { back ≤ self.values }
+        ensures { RowPut (name ∷ packet ∷ (self.at + 1) ∷ 0 ∷ []) self.values
+            (put_word value_width (self.values - back) 3 (self.values + 1) values.old) values.new (Moved (going self) 1 0 0 0 0 1 (going result)) }
+    {
+        put_linked(
+            values,
+            self.values as usize,
+            back as usize,
+            name,
+            packet,
+            self.at + 1,
+            self.values + 1,
+        );
+        Progress {
+            at: self.at + 1,
+            values: self.values + 1,
+            ..self
+        }
+    }
 }
 
 // Writes a value row that leads to none as row `n` of the table, counted from 0, and its number into the row `back` before it, which leads to it, each if
@@ -213,32 +197,4 @@ fn put_linked(
         let linked = before * 4;
         values[linked + 3] = number;
     }
-}
-
-// Past a value: its row, which leads to none, and the row so many before it, which leads to it; with 0 there is no such row.
-pub(crate) fn put_value(
-    p: Progress,
-    name: u32,
-    packet: u32,
-    back: u32,
-    values: &mut [u32],
-) -> Progress
-    requires count_room { CountRoom p }
-    requires back_le_values { back ≤ p.values }
-    ensures { RowPut (name ∷ packet ∷ (p.at + 1) ∷ 0 ∷ []) p.values
-        (put_word value_width (p.values - back) 3 (p.values + 1) values.old) values.new (Moved p 1 0 0 0 0 1 result) }
-{
-    put_linked(
-        values,
-        p.values as usize,
-        back as usize,
-        name,
-        packet,
-        p.at + 1,
-        p.values + 1,
-    );
-    let mut q = p;
-    q.at = p.at + 1;
-    q.values = p.values + 1;
-    q
 }

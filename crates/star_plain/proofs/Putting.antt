@@ -23,7 +23,6 @@ fill_none room = record { counts = refl; leaves = refl }
 -- past those bytes all is cleared
 pub fill-clear : (bytes room : List ℕ) (size : ℕ) {filled cleared : List ℕ} → size ≡ length bytes → size ≤ length room
     → filled ≡ bytes ++ drop (length bytes) room → cleared ≡ cleared_from size filled → cleared ≡ bytes ++ replicate (length room - size) 0
-unfolding cleared_from
 fill-clear bytes room size e h f c =
     let k : length bytes + (length room - length bytes) - length bytes ≡ length room - length bytes = omega arith in
     c ∙ ap (cleared_from size) f ∙ rw (e, take-append_seam, length-append, length-drop, k)

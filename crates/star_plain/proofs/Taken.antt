@@ -33,7 +33,6 @@ taken-within file words count rows is =
 
 -- a room that is cleared whole
 pub cleared-whole : (room : List ℕ) {cleared : List ℕ} → cleared ≡ cleared_from 0 room → cleared ≡ replicate (length room) 0
-unfolding cleared_from
 cleared-whole room e = e ∙ ap (λ n. replicate n 0) (sub-zero (length room))
 
 -- the form has no place, or stands in the room

@@ -28,10 +28,7 @@ fn rows_taken(file: &[u8], tokens: &[u32], count: usize) -> usize
 fn has_place(size: usize, room: usize) -> bool
     ensures { result ≡ has_place size room }
 {
-    if size > star_text::MOST_BYTES {
-        return false;
-    }
-    size <= room
+    size <= star_text::MOST_BYTES && size <= room
 }
 
 // Puts the plain form of the rows of a table 1, with header stops or without, into a room, and answers its length. Where it is longer than the size limit or the room, and past
@@ -43,10 +40,10 @@ pub fn put_plain(file: &[u8], tokens: &[u32], count: usize, out: &mut [u8], with
     let rows = rows_taken(file, tokens, count);
     let size = plain::plain_length(file, tokens, rows, without);
     if !has_place(size, out.len()) {
-        room::clear_bytes(out, 0);
+        star_rows::clear_from(out, 0);
         return size;
     }
     plain::put_tokens(file, tokens, rows, out, without);
-    room::clear_bytes(out, size);
+    star_rows::clear_from(out, size);
     size
 }

@@ -1,6 +1,7 @@
 -- What the numbers of a run and of a table tell: the place of a token from its row, and which of the checks of the grammar and of the room
 -- decides.
 use mathlib.Core.Path.{◌≡◌, refl, sym, ◌∙◌}
+use mathlib.Core.Logic.{inl, inr}
 use mathlib.Core.Bool.{Bool, true, false}
 use mathlib.Core.List.{List, [], ◌∷◌}
 use Prim.Native.Nat.{ℕ, zero, suc, ◌≤◌, ◌<◌}
@@ -15,15 +16,14 @@ use Rattle.star_lex.specs.Tokens.{Token, Placed}
 use Rattle.star_lex.specs.Split.{placed, tokens_of}
 use Rattle.star_grammar.specs.Tables.{Rows}
 use Rattle.star_grammar.specs.Machine.{State, Run, bad, good, run}
-use Rattle.star_parse.specs.declared.Parsed.{Parsed}
+use Rattle.star_parse.specs.Parsed.{Parsed}
 use Rattle.star_grammar.proofs.Walking.{Halts, bad-halts}
 use Rattle.star_grammar.proofs.Refusals.{Refusal, refusal, EndRefusal, end-refusal}
 use Rattle.star_lex.specs.Holds.{Holds}
 use Rattle.star_lex.specs.Table.{first_byte}
 use Rattle.star_lex.proofs.Held.{nowhere, held_first}
 use Rattle.star_read.specs.Read.{FileRows, Sizes, token_place, decide, room_for, rows_fit}
-use Rattle.star_read.specs.Answer.{words}
-use Rattle.star_read.specs.Judged.{judged_of, Ran}
+use Rattle.star_read.specs.Judged.{Known, Numbered, judged_of, Ran}
 
 place_in : (size : ℕ) (ps : List Placed) (n : ℕ) → n < length ps → token_place size ps n ≡ (get_or ps n nowhere).at
 unfolding token_place
@@ -43,30 +43,34 @@ pub place-held : (file words : List ℕ) (count : ℕ) → Holds file words coun
 place-held file words count h n below =
     held_first file words count h n below ∙ sym (place_in (length file) (placed (tokens_of file)) n (omega (arith, h.count_is)))
 
-refusal-number : {rules : Rules} {st : State} {k : _} {r : Rows} {n : ℕ} → Refusal rules st k r n → n ≡ 0 → ⊥
-refusal-number (Refusal.retired s u e) z = omega arith
-refusal-number (Refusal.deep d more h s u e) z = omega arith
-refusal-number (Refusal.packet i e) z = omega arith
-refusal-number (Refusal.other i e) z = omega arith
+refusal-number : {rules : Rules} {st : State} {k : _} {r : Rows} {n : ℕ} → Refusal rules st k r n → Known n
+refusal-number (Refusal.retired s u e) = inr refl
+refusal-number (Refusal.deep d more h s u e) = inl (omega arith, omega arith)
+refusal-number (Refusal.packet i e) = inl (omega arith, omega arith)
+refusal-number (Refusal.other i e) = inl (omega arith, omega arith)
 
-end-number : {st : State} {n : ℕ} → EndRefusal st n → n ≡ 0 → ⊥
-end-number (EndRefusal.packet i) z = omega arith
-end-number (EndRefusal.other i) z = omega arith
+end-number : {st : State} {n : ℕ} → EndRefusal st n → Known n
+end-number (EndRefusal.packet i) = inl (omega arith, omega arith)
+end-number (EndRefusal.other i) = inl (omega arith, omega arith)
+
+-- a known number is not 0
+pub known-some : (n : ℕ) → Known n → n ≡ 0 → ⊥
+known-some n (inl h) z = omega arith
+known-some n (inr h) z = omega arith
 
 -- a run that refuses has a number
-pub run-number : (rules : Rules) (st : State) (ts : List Token) (r : Rows) (n i : ℕ) → run rules st ts r ≡ bad n i → n ≡ 0 → ⊥
+pub run-number : (rules : Rules) (st : State) (ts : List Token) (r : Rows) → Numbered (run rules st ts r)
 run-number rules st ts r n i e = go (bad-halts rules ts st r n i e)
   where
-    go : Halts rules st ts r n i → n ≡ 0 → ⊥
+    go : Halts rules st ts r n i → Known n
     go (Halts.token p t q s u a b c d) = refusal-number (refusal rules s _ u n c)
     go (Halts.end s u a b) = end-number (end-refusal s u n i b)
 
 -- what the room decides does not look at what is accepted
-room-any : {A B : Type 0} (s n p v t u ws wn wp wv : ℕ) (a : A) (b : B)
-    → judged_of (room_for s n p v (words t ws wn wp wv) (accepted a)) ≡ judged_of (room_for s n p v (words u ws wn wp wv) (accepted b))
+room-any : {A B : Type 0} (s n p v : ℕ) (w : Sizes) (a : A) (b : B) → judged_of (room_for s n p v w (accepted a)) ≡ judged_of (room_for s n p v w (accepted b))
 unfolding room_for need judged_of refusal_of place_of
-room-any s n p v t u ws wn wp wv a b =
-    by_tests (has_room s set_width ws) (has_room n name_width wn) (has_room p packet_width wp) (has_room v value_width wv)
+room-any s n p v w a b =
+    by_tests (has_room s set_width w.sets) (has_room n name_width w.names) (has_room p packet_width w.packets) (has_room v value_width w.values)
   where
     chain : {C : Type 0} → Bool → Bool → Bool → Bool → C → Outcome C
     chain c d e f x = need c 7 2 (need d 7 3 (need e 7 4 (need f 7 5 (accepted x))))
@@ -95,13 +99,12 @@ module _ (w : Sizes) (size : ℕ) (ps : List Placed) (taken : ℕ) (r : Parsed) 
   judge-bad (bad n i) a h f = rw (le-ltb taken i (omega arith), a.0, a.1)
   judge-bad (good rows) a h f = absurd (f a.0)
 
-pub judge-room : (t s n p v size : ℕ) (ps : List Placed) (taken : ℕ) (r : Parsed) (x : Run) → ((m i : ℕ) → x ≡ bad m i → m ≡ 0 → ⊥)
+pub judge-room : (w : Sizes) (size : ℕ) (ps : List Placed) (taken : ℕ) (r : Parsed) (x : Run) → Numbered x
     → Ran x (length ps) r → r.tokens ≤ taken → r.refusal ≡ 0
-    → judged_of (then (decide size ps taken x) (rows_fit (words t s n p v)))
-    ≡ judged_of (room_for r.sets r.names r.packets r.values (words 0 s n p v) (accepted r))
+    → judged_of (then (decide size ps taken x) (rows_fit w)) ≡ judged_of (room_for r.sets r.names r.packets r.values w (accepted r))
 unfolding decide then rows_fit
-judge-room t s n p v size ps taken r (bad m i) f a h e = absurd (f m i refl (sym a.0 ∙ e))
-judge-room t s n p v size ps taken r (good rows) f a h e =
+judge-room w size ps taken r (bad m i) f a h e = absurd (known-some m (f m i refl) (sym a.0 ∙ e))
+judge-room w size ps taken r (good rows) f a h e =
     rw (le-ltb taken (length ps) (omega arith))
-    (room-any {A = FileRows} (length rows.sets) (length rows.names) (length rows.packets) (length rows.values) t 0 s n p v (ps, rows) r
-    ∙ room-counts (words 0 s n p v) (accepted r) a.2 a.3 a.4 a.5)
+    (room-any {A = FileRows} (length rows.sets) (length rows.names) (length rows.packets) (length rows.values) w (ps, rows) r
+    ∙ room-counts w (accepted r) a.2 a.3 a.4 a.5)

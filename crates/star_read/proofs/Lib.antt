@@ -14,6 +14,7 @@ pub mod RefusalNumber
 pub mod Known
 pub mod Judging
 pub mod Settling
+pub mod Lent
 pub mod Starting
 pub mod Accepted
 pub mod Windows

@@ -6,6 +6,10 @@ use Prim.Native.Nat.{ℕ, ◌*◌, ◌≤◌}
 use native.Mathlib.Omega.{arith}
 use lib.Dec.{ltb}
 use lib.ListN.{length}
+use Rattle.std.specs.Prelude.{Err}
+use Rattle.star_text.specs.Refusal.{number}
+use Rattle.star_text.specs.declared.refusal.Refusal.{Refusal}
+use Rattle.star_text.proofs.Refusals.{number-some}
 use Rattle.star_text.specs.Outcome.{refused, accepted, then}
 use Rattle.star_text.proofs.Outcome.{accepted-same, need-refused, then-accepted, then-refused, NotZero, told-refused, told-accepted}
 use Rattle.star_text.proofs.Cases.{impossible, cond_cases}
@@ -18,19 +22,17 @@ use Rattle.star_lex.specs.Split.{placed, tokens_of}
 use Rattle.star_grammar.specs.Tables.{Rows, no_rows, set_words, name_words, packet_words, value_words}
 use Rattle.star_grammar.specs.Machine.{Run, bad, good, run, start}
 use Rattle.star_grammar.specs.Layout.{today_row}
-use Rattle.star_parse.specs.Parsed.{FourTables, Answers, Accepted, rows_run}
-use Rattle.star_parse.specs.declared.Parsed.{Parsed}
+use Rattle.star_parse.specs.Parsed.{Parsed, FourTables, Answers, Accepted, rows_run}
 use Rattle.star_grammar.proofs.Widths.{set-wide, name-wide, packet-wide, value-wide}
 use Rattle.star_lex.specs.Holds.{file_tokens}
 use Rattle.star_unique.specs.Repeat.{nothing, first_repeat}
 use Rattle.star_read.specs.Read.{ReadOutcome, FileRows, Sizes, decide, room_for, rows_fit, grammar_of}
 use Rattle.star_read.specs.Demands.{Room}
-use Rattle.star_read.specs.Answer.{read_answer, tables, tables_of, words, Leaves, Tables}
-use Rattle.star_read.specs.Judged.{HoldsToday, judged_of, Ran, Numbered, ClearedBehind}
+use Rattle.star_read.specs.Answer.{read_answer, answer_of, tables, tables_of, words, Leaves, Tables}
+use Rattle.star_read.specs.Judged.{HoldsToday, Judged, judged_of, Ran, Numbered, ClearedBehind, Tries}
 use Rattle.star_read.specs.declared.Answer.{Answer}
-use Rattle.star_read.specs.declared.Judged.{Judged}
 use Rattle.star_read.proofs.Fitting.{rows-room}
-use Rattle.star_read.proofs.Judging.{run-number}
+use Rattle.star_read.proofs.Judging.{known-some, run-number}
 use Rattle.star_read.proofs.Places.{held-run}
 
 pub judged-refused : (o : ReadOutcome) (j : Judged) → j ≡ judged_of o → (j.refusal ≡ 0 → ⊥) → o ≡ refused j.refusal j.place
@@ -55,10 +57,10 @@ rows-number w a n place e z =
     (λ q k l. omega arith)) (λ p k l. omega arith)
 
 -- what a run decides is refused with 9 or with the run's number
-decide-number : (size : ℕ) (ps : List Placed) (taken : ℕ) (x : Run) → ((m i : ℕ) → x ≡ bad m i → m ≡ 0 → ⊥) → NotZero (decide size ps taken x)
+decide-number : (size : ℕ) (ps : List Placed) (taken : ℕ) (x : Run) → Numbered x → NotZero (decide size ps taken x)
 unfolding decide
 decide-number size ps taken (bad m i) f n place e z =
-    cond_cases (ltb taken i) _ _ (refused n place) e (λ t h. let k : 9 ≡ n = cc in omega arith) (λ t h. let k : m ≡ n = cc in f m i refl (k ∙ z))
+    cond_cases (ltb taken i) _ _ (refused n place) e (λ t h. let k : 9 ≡ n = cc in omega arith) (λ t h. let k : m ≡ n = cc in known-some m (f m i refl) (k ∙ z))
 decide-number size ps taken (good rows) f n place e z =
     cond_cases (ltb taken (length ps)) _ _ (refused n place) e (λ t h. let k : 9 ≡ n = cc in omega arith) (λ t h. impossible cc)
 
@@ -71,14 +73,14 @@ decide-good size ps taken (good us) qs rows e =
     cond_cases (ltb taken (length ps)) _ _ (accepted (qs, rows)) e (λ t h. impossible cc)
     (λ t h. let same : ◌≡◌ {A = FileRows} (ps, us) (qs, rows) = accepted-same h in (ap (λ p. good p.1) same, ap (λ p. p.0) same))
 
-pub judged-number : (w : Sizes) (size : ℕ) (ps : List Placed) (taken : ℕ) (x : Run) → ((m i : ℕ) → x ≡ bad m i → m ≡ 0 → ⊥)
+pub judged-number : (w : Sizes) (size : ℕ) (ps : List Placed) (taken : ℕ) (x : Run) → Numbered x
     → NotZero (then (decide size ps taken x) (rows_fit w))
 judged-number w size ps taken x f n place e z =
     then-refused (decide size ps taken x) (rows_fit w) n place e
     (λ h. decide-number size ps taken x f n place h z)
     (λ a h k. rows-number w a n place k z)
 
-pub settled : (w : Sizes) (size : ℕ) (ps : List Placed) (taken : ℕ) (x : Run) → ((m i : ℕ) → x ≡ bad m i → m ≡ 0 → ⊥)
+pub settled : (w : Sizes) (size : ℕ) (ps : List Placed) (taken : ℕ) (x : Run) → Numbered x
     → (judged_of (then (decide size ps taken x) (rows_fit w))).refusal ≡ 0 → Settled w size ps taken x
 unfolding judged_of
 settled w size ps taken x f e =
@@ -158,12 +160,10 @@ module _ (layout : ℕ) (stops : Bool) (file table : List ℕ) (count : ℕ) (h 
   pub rows-accepted : (rows : Rows) → ran ≡ good rows → Accepted count rows before r mid
   rows-accepted rows g = subst (λ x. Answers count x before r mid) g answers
 
--- tables that a refusal has cleared
-pub leaves-refused : (table : List ℕ) (before mid : FourTables) → SameSizes before mid → (o : ReadOutcome) (n place : ℕ) → o ≡ refused n place
-    → {t : Tables} → Leaves (refused n place) (sizes_of (length table) mid) t → Leaves o (sizes_of (length table) before) t
-leaves-refused table before mid k o n place e {t} l =
-    subst (λ q. Leaves q (sizes_of (length table) before) t) (sym e)
-    (subst (λ w. Leaves (refused n place) w t) (same-words (length table) before mid k) l)
+-- a refusal is answered as it is
+pub refused-tries : {o : ReadOutcome} {before after : Tables} (r : Refusal) → o ≡ refused (number r.reason) r.place → Tries o before after (answer_of (Err r))
+unfolding read_answer
+refused-tries r e = record { answer = sym (ap read_answer e); leaves = λ z. absurd (number-some r.reason z) }
 
 -- the answer of an accepted file by its counts
 abbrev pub counted_by : ℕ → Parsed → Answer

@@ -9,8 +9,7 @@ use Rattle.star_lex.specs.Tokens.{Placed}
 use Rattle.star_lex.specs.Split.{tokens_of, placed}
 use Rattle.star_lex.specs.Answer.{tokens_in}
 use Rattle.star_lex.proofs.Answers.{tokens-accepted}
-use Rattle.star_unique.specs.Compared.{compared_of}
-use Rattle.star_unique.specs.declared.Compared.{Compared}
+use Rattle.star_unique.specs.Compared.{Compared, compared_of}
 use Rattle.star_unique.proofs.Comparing.{compared-refused}
 use Rattle.star_read.specs.Read.{Sizes, rows_fit, grammar_of, read_by}
 use Rattle.star_read.proofs.InLayout.{stops-tokens}

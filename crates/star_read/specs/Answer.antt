@@ -1,6 +1,10 @@
 -- What reading answers and leaves in the lent tables: specification 9. Believed; the contracts of `read`, of every call that reads first, and the demands cite it.
-use Rattle.std.specs.Prelude.{◌≡◌, List, ℕ, length, replicate}
+use Rattle.std.specs.Prelude.{◌≡◌, List, ℕ, length, replicate, Result, Ok, Err}
 use Rattle.star_text.specs.Outcome.{Outcome, refused, accepted}
+use Rattle.star_text.specs.Refusal.{number}
+use Rattle.star_text.specs.declared.refusal.Refusal.{Refusal}
+use Rattle.star_rows.specs.declared.Counts.{Counts}
+use Rattle.star_rows.specs.declared.Tables.{Tables as LentTables}
 use Rattle.star_rows.specs.Rows.{holding}
 use Rattle.star_lex.specs.Tokens.{token_row}
 use Rattle.star_grammar.specs.Tables.{set_words, name_words, packet_words, value_words}
@@ -20,6 +24,11 @@ read_answer (accepted (ps, rows)) = record {
   values = length rows.values;
 }
 
+-- what a call tells that answers the row counts or a refusal
+abbrev pub answer_of : Result Counts Refusal → Answer
+answer_of (Ok n) = record { refusal = 0; place = 0; tokens = n.tokens; sets = n.sets; names = n.names; packets = n.packets; values = n.values }
+answer_of (Err r) = record { refusal = number r.reason; place = r.place; tokens = 0; sets = 0; names = 0; packets = 0; values = 0 }
+
 -- the five tables
 pub record Tables : Type 0 where
   pub tokens : List ℕ
@@ -30,6 +39,10 @@ pub record Tables : Type 0 where
 
 abbrev pub tables : (tokens sets names packets values : List ℕ) → Tables
 tables tokens sets names packets values = record { tokens = tokens; sets = sets; names = names; packets = packets; values = values }
+
+-- those that are lent
+abbrev pub held : LentTables → Tables
+held t = tables t.tokens.now t.sets.now t.names.now t.packets.now t.values.now
 
 abbrev pub sizes : Tables → Sizes
 sizes t = record {

@@ -1,72 +1,34 @@
--- Laws of clearing a table from a place on.
-use mathlib.Core.Path.{◌≡◌, refl, sym, ◌∙◌, ap}
-use mathlib.Core.List.{List, [], ◌∷◌, ◌++◌, append-nil}
-use Prim.Native.Nat.{ℕ, ◌+◌, ◌-◌, ◌≤◌, ◌<◌}
-use native.Mathlib.Nat.{zero-add, suc-add, sub_self, sub-zero, le_of_eq}
-use native.Mathlib.Omega.{arith}
-use borrow.Author.Fill.{fill_more}
-use lib.ListN.{length, take, drop, set, replicate, length-drop, length-set, drop_of_length-le, take-append-drop}
-use lib.Seq.{length-take-le}
-use Rattle.star_rows.specs.Rows.{cleared_from}
+-- Laws of filling a table from a place on, and of clearing it.
+use Rattle.std.proofs.Common.{◌≡◌, ℕ, ◌+◌, ◌-◌, ◌≤◌, List, [], ◌∷◌, ◌++◌, length, take, drop, replicate, refl, sym, ◌∙◌, ap, arith, length-drop}
+use Rattle.std.proofs.Math.ListN.{drop_of_length-le}
+use native.Mathlib.Nat.{sub-zero}
+use mathlib.Core.List.{append-nil}
+use lib.Seq.{take_all}
+use borrow.Rule.Slice.PartMut.{put_mid}
+use Rattle.std.specs.List.{FoldsTo}
+use Rattle.star_rows.specs.Rows.{filled_from, cleared_from}
 
-pub set_append_right {ℓ} : {A : Type ℓ} (xs ys : List A) (i : ℕ) (a : A) → set (xs ++ ys) (length xs + i) a ≡ xs ++ set ys i a
-set_append_right [] ys i a = rw zero-add
-set_append_right (x ∷ xs) ys i a = rw suc-add (ap (λ r. x ∷ r) (set_append_right xs ys i a))
+-- elements that are made one by one, each this one
+pub folds-same : {F A : Type 0} (R : F → A → F → Type 0) (x : A) → ((p : F) (y : A) (q : F) → R p y q → y ≡ x)
+    → (p : F) (xs : List A) (q : F) → FoldsTo R p xs q → xs ≡ replicate (length xs) x
+folds-same R x each p [] q h = refl
+folds-same R x each p (y ∷ ys) q h =
+    ap (λ z. z ∷ ys) (each p y h.0 h.1) ∙ ap (λ zs. x ∷ zs) (folds-same R x each h.0 ys q h.2)
 
--- a table whose words from one place up to another are 0
-abbrev clearing : ℕ → ℕ → List ℕ → List ℕ
-clearing from at words = take from words ++ (replicate (at - from) 0 ++ drop (at - from) (drop from words))
+-- the part from a place on is filled
+pub filled-part : {A : Type 0} (from k : ℕ) (x : A) (xs ys : List A) → ys ≡ replicate (length ys) x → length ys ≡ length xs - from
+    → length xs ≤ from + k → put_mid from k xs ys ≡ filled_from from x xs
+filled-part from k x xs ys e n h =
+    let behind : length (drop from xs) ≤ k = omega (arith, length-drop from xs) in
+    ap (λ r. take from xs ++ (ys ++ r)) (drop_of_length-le (drop from xs) behind)
+    ∙ ap (λ r. take from xs ++ r) (append-nil ys ∙ e ∙ ap (λ m. replicate m x) n)
 
-fills : (from k : ℕ) (words : List ℕ) → from + k < length words
-    → set (take from words ++ (replicate k 0 ++ drop k (drop from words))) (from + k) 0
-    ≡ take from words ++ (replicate (k + 1) 0 ++ drop (k + 1) (drop from words))
-fills from k words h =
-    ap (λ n. set (take from words ++ (replicate k 0 ++ drop k (drop from words))) (n + k) 0) (sym (length-take-le from words (omega arith)))
-    ∙ set_append_right (take from words) (replicate k 0 ++ drop k (drop from words)) k 0
-    ∙ ap (λ r. take from words ++ r) (fill_more k 0 (drop from words) (omega (arith, length-drop from words)))
-
--- one word more
-clearing-more : (from at : ℕ) (words : List ℕ) → from ≤ at → at < length words
-    → set (clearing from at words) at 0 ≡ clearing from (at + 1) words
-clearing-more from at words h g =
-    let e : from + (at - from) ≡ at = omega arith in
-    ap (λ n. set (clearing from at words) n 0) (sym e)
-    ∙ fills from (at - from) words (omega arith)
-    ∙ ap (λ n. take from words ++ (replicate n 0 ++ drop n (drop from words))) (let d : at - from + 1 ≡ at + 1 - from = omega arith in d)
-
--- none yet
-clearing-none : (from : ℕ) (words : List ℕ) → words ≡ clearing from from words
-clearing-none from words = rw sub_self (sym (take-append-drop from words))
-
--- all from there on
-clearing-all : (from at : ℕ) (words : List ℕ) → at - from ≡ length words - from → clearing from at words ≡ cleared_from from words
-unfolding cleared_from
-clearing-all from at words e =
-    rw (e, drop_of_length-le (drop from words) (le_of_eq (length-drop from words))) (ap (λ r. take from words ++ r) (append-nil _))
-
--- what a loop that clears word by word keeps: it started there, and is here
-pub record Clearing (from at : ℕ) (before words : List ℕ) : Type 0 where
-  pub low : from ≤ at
-  pub high : at - from ≤ length before - from
-  pub holds : words ≡ clearing from at before
-  pub size : length words ≡ length before
-
-pub clearing-start : (from : ℕ) (words : List ℕ) → Clearing from from words words
-clearing-start from words = record { low = omega arith; high = omega arith; holds = clearing-none from words; size = refl }
-
-pub clearing-turn : {from at : ℕ} {before words : List ℕ} → Clearing from at before words → at < length words
-    → Clearing from (at + 1) before (set words at 0)
-clearing-turn {from} {at} {before} {words} k h = record {
-  low = omega (arith, k.low);
-  high = omega (arith, k.size);
-  holds = ap (λ l. set l at 0) k.holds ∙ clearing-more from at before k.low (omega (arith, k.size));
-  size = length-set words at 0 ∙ k.size;
-}
-
-pub clearing-end : {from at : ℕ} {before words : List ℕ} → Clearing from at before words → length words ≤ at → words ≡ cleared_from from before
-clearing-end {from} {at} {before} k h = k.holds ∙ clearing-all from at before (omega (arith, k.low, k.high, k.size))
+-- there is no such part
+pub filled-none : {A : Type 0} (from : ℕ) (x : A) (xs : List A) → length xs ≤ from → xs ≡ filled_from from x xs
+filled-none from x xs h =
+    let e : length xs - from ≡ 0 = omega arith in
+    rw (e, take_all from xs h) (sym (append-nil xs))
 
 -- from the start on: every word is 0
 pub cleared-whole : (words : List ℕ) → cleared_from 0 words ≡ replicate (length words) 0
-unfolding cleared_from
 cleared-whole words = rw sub-zero

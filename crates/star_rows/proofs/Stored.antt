@@ -10,6 +10,7 @@ use borrow.Author.Tests.{lt-ltb, le-ltb, le-leb, lt-leb, ltb-true, ltb-false, le
 use lib.Dec.{ltb, leb}
 use lib.ListN.{length, take, drop, replicate, length-append, length-take, length-drop}
 use lib.Seq.{sets, sets-eq, take_all, take-nil, take-append_seam, take-append-le, drop-append-add, drop-drop}
+use borrow.Rule.Slice.PartMut.{put_mid}
 use Rattle.star_rows.specs.Rows.{put_row, stored, cleared_from, holding}
 
 -- a row that fits is written
@@ -22,6 +23,19 @@ put-fits row n words h = rw (lt-ltb n (length words / length row) h)
 pub put_full : (row : List ℕ) (n : ℕ) (words : List ℕ) → length words / length row ≤ n → put_row row n words ≡ words
 unfolding put_row
 put_full row n words h = rw (le-ltb n (length words / length row) h)
+
+-- a row that is written as a part of the table
+pub put-part : (row : List ℕ) (n width : ℕ) (words part : List ℕ) → part ≡ row → length row ≡ width → 0 < width → n < length words / width
+    → put_mid (n * width) (n * width + width - n * width) words part ≡ put_row row n words
+put-part row n width words part e w some h =
+    let within : n * width + width ≤ length words = omega (arith, (le-div_iff_mul-le some).0 h, suc-mul n width) in
+    let size : n * width + width - n * width ≡ width = omega arith in
+    rw (e, size, drop-drop width (n * width) words)
+    (sym (append_assoc (take (n * width) words) row (drop (n * width + width) words))
+    ∙ ap (λ k. take (n * width) words ++ row ++ drop (n * width + k) words) (sym w)
+    ∙ sym (sets-eq row words (n * width) (omega arith))
+    ∙ ap (λ k. sets words (n * k) row) (sym w)
+    ∙ sym (put-fits row n words (rw w h)))
 
 pub flat_append {ℓ} : {A : Type ℓ} (row : A → List ℕ) (xs ys : List A) → flat_map row (xs ++ ys) ≡ flat_map row xs ++ flat_map row ys
 unfolding flat_map
@@ -98,7 +112,7 @@ module _ {ℓ} {A : Type ℓ} (width : ℕ) (row : A → List ℕ) (wide : (x : 
   -- a table with room, cleared behind its rows, holds them
   pub stored-holding : (xs : List A) (words : List ℕ) → length xs * width ≤ length words
       → cleared_from (length xs * width) (stored width row xs words) ≡ holding row xs (length words)
-  unfolding cleared_from holding
+  unfolding holding
   stored-holding xs words h =
       let a : List ℕ = flat_map row xs in
       rw (length-stored xs words, stored-whole xs words ((le-div_iff_mul-le some).1 h), ← flat-length xs)

@@ -2,7 +2,7 @@
 use mathlib.Core.Path.{◌≡◌, refl, sym, ◌∙◌, ap}
 use mathlib.Core.Bool.{Bool, true, false}
 use mathlib.Core.List.{List, [], ◌∷◌, ◌++◌, flat_map}
-use Prim.Native.Nat.{ℕ, zero, suc, ◌+◌, ◌*◌, ◌/◌, ◌≤◌, ◌<◌}
+use Prim.Native.Nat.{ℕ, zero, suc, ◌+◌, ◌-◌, ◌*◌, ◌/◌, ◌≤◌, ◌<◌}
 use native.Mathlib.Nat.{zero-mul, zero-add, suc-mul, mul-le-mul_right, le-div_iff_mul-le}
 use native.Mathlib.Omega.{arith}
 use borrow.Author.Tests.{lt-ltb, le-ltb, ltb-true, ltb-false}
@@ -10,7 +10,7 @@ use lib.Dec.{ltb}
 use lib.ListN.{length, get_or, take, drop, set, length-set, length-take}
 use lib.Seq.{sets-eq, set-append_left, take-set-le, take-set-lt, drop-set-lt, get_or-take}
 use Rattle.star_rows.specs.Rows.{put_row, put_word, stored}
-use Rattle.star_rows.proofs.Clear.{set_append_right}
+use Rattle.std.proofs.lemmas.List.{set-append_right}
 use Rattle.star_rows.proofs.Stored.{put-fits, flat-length, length-stored}
 
 -- a word of a row that fits is written
@@ -56,8 +56,8 @@ module _ {ℓ} {A : Type ℓ} (width : ℕ) (row : A → List ℕ) (wide : (x : 
       ∙ ap (λ n. set (row x ++ flat_map row xs) n v) (sym (ap (λ n. n + k) (zero-mul width) ∙ zero-add k))
   flat-set (x ∷ xs) (suc i) k v y h j e =
       ap (λ r. row x ++ r) (flat-set xs i k v y (omega arith) j e)
-      ∙ sym (set_append_right (row x) (flat_map row xs) (i * width + k) v)
-      ∙ ap (λ n. set (row x ++ flat_map row xs) n v) (rw (suc-mul, wide x) (omega arith))
+      ∙ ap (λ n. row x ++ set (flat_map row xs) n v) (let m : i * width + k ≡ suc i * width + k - width = omega (arith, suc-mul i width) in m)
+      ∙ sym (set-append_right (row x) (flat_map row xs) width (suc i * width + k) v (wide x) (omega (arith, suc-mul i width)))
 
   -- a row that differs in one word
   pub stored-word : (xs : List A) (i k v : ℕ) (y : A) (words : List ℕ) → i < length xs → k < width → row y ≡ set (row (get_or xs i d)) k v

@@ -7,9 +7,13 @@ use Rattle.std.proofs.lemmas.List.Edits.{sets}
 unfoldable pub holding {ℓ} : {A : Type ℓ} → (A → List ℕ) → List A → ℕ → List ℕ
 holding row xs words = flat_map row xs ++ replicate (words - length (flat_map row xs)) 0
 
+-- the elements from a place on are this one
+abbrev pub filled_from : {A : Type 0} → ℕ → A → List A → List A
+filled_from at x xs = take at xs ++ replicate (length xs - at) x
+
 -- the words from a place on are 0
-unfoldable pub cleared_from : ℕ → List ℕ → List ℕ
-cleared_from at words = take at words ++ replicate (length words - at) 0
+abbrev pub cleared_from : ℕ → List ℕ → List ℕ
+cleared_from at words = filled_from at 0 words
 
 -- a row is written as the n-th of its width, counted from 0, if it fits
 unfoldable pub put_row : List ℕ → ℕ → List ℕ → List ℕ

@@ -1,8 +1,8 @@
 // Rows of a table: a lent slice of words holds rows of one width, one after the other.
 #![tactic(auto)]
 
-ghost use Rattle.std.specs.Prelude.{◌≡◌, [], ◌∷◌};
-ghost use Rattle.star_rows.specs.Rows.{put_row, cleared_from, word_of, has_room};
+ghost use Rattle.std.specs.Prelude.{◌≡◌};
+ghost use Rattle.star_rows.specs.Rows.{put_row, filled_from, word_of, has_room};
 
 // The words of a row of each of the five tables.
 pub const TOKEN_WIDTH: u32 = 3;
@@ -15,39 +15,47 @@ pub const PACKET_WIDTH: u32 = 3;
 
 pub const VALUE_WIDTH: u32 = 4;
 
-// Writes a row of three words as row `n` of the table, counted from 0, if it fits.
-pub fn put3(table: &mut [u32], n: usize, a: u32, b: u32, c: u32)
-    ensures { table.new ≡ put_row (a ∷ b ∷ c ∷ []) n table.old }
+// The five tables of a file, lent to be written.
+#[derive(Drop)]
+pub struct Tables<'a> {
+    pub tokens: &'a mut [u32],
+    pub sets: &'a mut [u32],
+    pub names: &'a mut [u32],
+    pub packets: &'a mut [u32],
+    pub values: &'a mut [u32],
+}
+
+// How many rows each table has.
+#[repr(C)]
+#[derive(Clone, Copy)]
+pub struct Counts {
+    pub tokens: u32,
+    pub sets: u32,
+    pub names: u32,
+    pub packets: u32,
+    pub values: u32,
+}
+
+// Writes a row as row `n` of its width, counted from 0, if it fits.
+pub fn put_row<const N: usize>(table: &mut [u32], n: usize, row: [u32; N])
+    ensures { table.new ≡ put_row row.entry n table.old }
 {
-    if n < table.len() / 3 {
-        let at = n * 3;
-        table[at] = a;
-        table[at + 1] = b;
-        table[at + 2] = c;
+    if N == 0 {
+        return;
+    }
+    let rows = table.len() / N;
+    if n < rows {
+        let at = n * N;
+        table[at..at + N].copy_from_slice(&row);
     }
 }
 
-// Writes a row of four words as row `n` of the table, counted from 0, if it fits.
-pub fn put4(table: &mut [u32], n: usize, a: u32, b: u32, c: u32, d: u32)
-    ensures { table.new ≡ put_row (a ∷ b ∷ c ∷ d ∷ []) n table.old }
+// Sets every element of the table from `from` on to 0, the default of its type.
+pub fn clear_from<T: Copy + Default>(table: &mut [T], from: usize)
+    ensures { (zero : T) → ((x : T) → T.is_default x → x ≡ zero) → table.new ≡ filled_from from zero table.old }
 {
-    if n < table.len() / 4 {
-        let at = n * 4;
-        table[at] = a;
-        table[at + 1] = b;
-        table[at + 2] = c;
-        table[at + 3] = d;
-    }
-}
-
-// Sets every word of the table from `from` on to 0.
-pub fn clear_from(table: &mut [u32], from: usize)
-    ensures { table.new ≡ cleared_from from table.old }
-{
-    let mut at = from;
-    while at < table.len() {
-        table[at] = 0;
-        at += 1;
+    if from < table.len() {
+        table[from..].fill_with(|| T::default());
     }
 }
 
@@ -59,7 +67,7 @@ pub fn word(table: &[u32], width: u32, row: u32, i: u32) -> u32
         return 0;
     }
     let at = (row - 1) as usize * width as usize + i as usize;
-    if at < table.len() { table[at] } else { 0 }
+    table.get(at).copied().unwrap_or(0)
 }
 
 // Whether a table of so many words has room for so many rows of a width.

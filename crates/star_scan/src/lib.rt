@@ -19,10 +19,9 @@ const TERMINATE: u8 = 3;
 pub fn white_at(classes: &[u8; 256], file: &[u8], at: usize) -> bool
     ensures { Classes classes.now → result ≡ white_next (drop at file.now) }
 {
-    if at < file.len() {
-        star_text::is_white(classes, file[at])
-    } else {
-        true
+    match file.get(at) {
+        Some(b) => star_text::is_white(classes, *b),
+        None => true,
     }
 }
 
@@ -31,26 +30,20 @@ fn quote_closes(classes: &[u8; 256], file: &[u8], at: usize, quote: u8) -> bool
     requires { at < length file.now }
     ensures { Classes classes.now → result ≡ (eqb (get_or file.now at 0) quote && white_next (drop (at + 1) file.now)) }
 {
-    if file[at] == quote {
-        white_at(classes, file, at + 1)
-    } else {
-        false
-    }
+    file[at] == quote && white_at(classes, file, at + 1)
 }
 
 // Where the quoted string whose content begins at `from` closes, or the file's length.
 pub fn quote_end(classes: &[u8; 256], file: &[u8], from: usize, quote: u8) -> usize
     ensures { Classes classes.now → result ≡ end_of (length file.now) from (quoted quote (drop from file.now)) }
 {
-    let mut at = from;
-    while at < file.len() {
+    for at in from..file.len() {
         if quote_closes(classes, file, at, quote) {
             return at;
         }
         if star_text::is_terminate(classes, file[at]) {
             return file.len();
         }
-        at += 1;
     }
     file.len()
 }
@@ -68,11 +61,7 @@ fn is_pair(file: &[u8], at: usize) -> bool
     requires { at < length file.now }
     ensures { result ≡ (eqb (get_or file.now at 0) 13 && starts 10 (drop (at + 1) file.now)) }
 {
-    if file[at] == b'\r' {
-        star_lex::scan::byte_at(file, at + 1, b'\n')
-    } else {
-        false
-    }
+    file[at..].starts_with(b"\r\n")
 }
 
 // How many bytes the line end at a place takes; 1 where none begins.
@@ -91,6 +80,7 @@ pub fn field_end(classes: &[u8; 256], file: &[u8], from: usize) -> usize
     ensures { Classes classes.now → result ≡ end_of (length file.now) from (field today (drop from file.now)) }
 {
     let mut next = from;
+    // A `for` would be no plainer: each turn goes on after the line end that it has found.
     while next < file.len() {
         let at = line_end(classes, file, next);
         if at >= file.len() {

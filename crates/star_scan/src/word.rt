@@ -1,109 +1,111 @@
 // The kind of a word.
-ghost use Rattle.std.specs.Prelude.{◌≡◌, false, List, [], ◌∷◌, ℕ, length};
+ghost use Rattle.std.specs.Prelude.{◌≡◌, List, ℕ, length};
+ghost use Rattle.star_lex.specs.Kinds.{number};
 ghost use Rattle.star_lex.specs.Rules.{today};
-ghost use Rattle.star_lex.specs.Split.{after, limited, word_lexeme, alone as split_alone};
-ghost use Rattle.star_lex.specs.Answer.{is_some, word_answer};
+ghost use Rattle.star_lex.specs.Split.{limited, block_word, frame_word, name_word, reference_word, word_lexeme, alone as split_alone};
+ghost use Rattle.star_lex.specs.Answer.{word_answer, word_found};
 
-use star_lex::word::Word;
+use star_lex::kind::Kind;
+use star_text::refusal::Reason;
 
 // The most bytes that a name or a code may have.
 const LONGEST: usize = 75;
 
-// Whether a word begins with these bytes.
-fn begins(word: &[u8], first: &[u8]) -> bool
-    ensures { result ≡ is_some (after first.now word.now) }
-{
-    if word.len() < first.len() {
-        return false;
-    }
-    let mut i = 0;
-    while i < first.len() {
-        if word[i] != first[i] {
-            return false;
-        }
-        i += 1;
-    }
-    true
-}
-
 // A name or code of so many bytes.
-fn limit(kind: u32, len: usize) -> Word
-    ensures { (more : ℕ) (content : List ℕ) → length content ≡ len → result ≡ word_answer (limited today more kind content) }
+fn limit(kind: Kind, len: usize) -> Result<Kind, Reason>
+    ensures { (more : ℕ) (content : List ℕ) → length content ≡ len → word_found result ≡ word_answer (limited today more (number kind) content) }
 {
     if LONGEST < len {
-        Word::Ill(4)
+        Err(Reason::LongName)
     } else {
-        Word::Kind(kind)
+        Ok(kind)
     }
 }
 
-// A keyword that stands alone, with so many bytes after it.
-fn alone(kind: u32, rest: usize) -> Word
-    ensures { (more : ℕ) (w others : List ℕ) → length others ≡ rest → result ≡ word_answer (split_alone more kind w others) }
+// A heading's code, from after its `data_`.
+fn block(code: &[u8]) -> Result<Kind, Reason>
+    ensures { (more : ℕ) → word_found result ≡ word_answer (block_word today more code.now) }
 {
-    if rest == 0 {
-        Word::Kind(kind)
+    if code.is_empty() {
+        Err(Reason::IllFormed)
     } else {
-        Word::Ill(3)
+        limit(Kind::Block, code.len())
     }
 }
 
-// The kind of a word whose first byte is that of a keyword.
-fn keyword(word: &[u8]) -> Word
-    requires word_value { is_some (after (95 ∷ []) word.now) ≡ false }
-    requires word_value_2 { is_some (after (36 ∷ []) word.now) ≡ false }
-    ensures { (more : ℕ) → result ≡ word_answer (word_lexeme today more word.now) }
+// A frame's code, from after its `save_`; where there is none, the end of a frame.
+fn frame(code: &[u8]) -> Result<Kind, Reason>
+    ensures { (more : ℕ) → word_found result ≡ word_answer (frame_word today more code.now) }
 {
-    let len = word.len();
-    if begins(word, b"data_") {
-        if len == 5 {
-            return Word::Ill(3);
-        }
-        return limit(1, len - 5);
+    if code.is_empty() {
+        Ok(Kind::FrameEnd)
+    } else {
+        limit(Kind::Frame, code.len())
     }
-    if begins(word, b"save_") {
-        if len == 5 {
-            return Word::Kind(3);
-        }
-        return limit(2, len - 5);
+}
+
+// A keyword that stands alone, with what follows it.
+fn alone(kind: Kind, rest: &[u8]) -> Result<Kind, Reason>
+    ensures { (more : ℕ) (w : List ℕ) → word_found result ≡ word_answer (split_alone more (number kind) w rest.now) }
+{
+    if rest.is_empty() {
+        Ok(kind)
+    } else {
+        Err(Reason::IllFormed)
     }
-    if begins(word, b"loop_") {
-        return alone(4, len - 5);
+}
+
+// A name, from after its underscore.
+fn name(letters: &[u8]) -> Result<Kind, Reason>
+    ensures { (more : ℕ) → word_found result ≡ word_answer (name_word today more letters.now) }
+{
+    if letters.is_empty() {
+        Err(Reason::IllFormed)
+    } else {
+        limit(Kind::Name, 1 + letters.len())
     }
-    if begins(word, b"stop_") {
-        return alone(5, len - 5);
+}
+
+// A reference, from after its `$`, which alone is a word as any other.
+fn reference(code: &[u8]) -> Result<Kind, Reason>
+    ensures { (more : ℕ) → word_found result ≡ word_answer (reference_word more code.now) }
+{
+    if code.is_empty() {
+        Ok(Kind::Word)
+    } else {
+        Ok(Kind::Reference)
     }
-    if begins(word, b"global_") {
-        return alone(12, len - 7);
-    }
-    Word::Kind(7)
 }
 
 // The kind of a word.
-pub fn word_kind(word: &[u8]) -> Word
-    ensures { (more : ℕ) → result ≡ word_answer (word_lexeme today more word.now) }
+pub fn word_kind(word: &[u8]) -> Result<Kind, Reason>
+    ensures { (more : ℕ) → word_found result ≡ word_answer (word_lexeme today more word.now) }
 {
-    let len = word.len();
-    if len == 0 {
-        return Word::Kind(7);
-    }
-    let first = word[0];
+    let [first, rest @ ..] = word else {
+        return Ok(Kind::Word);
+    };
     match first {
-        b'd' | b'g' | b'l' | b's' => keyword(word),
-        b'_' => {
-            if len == 1 {
-                Word::Ill(3)
-            } else {
-                limit(6, len)
-            }
-        }
-        b'$' => {
-            if len == 1 {
-                Word::Kind(7)
-            } else {
-                Word::Kind(8)
-            }
-        }
-        _ => Word::Kind(7),
+        b'd' => match word.strip_prefix(b"data_") {
+            Some(code) => block(code),
+            None => Ok(Kind::Word),
+        },
+        b'g' => match word.strip_prefix(b"global_") {
+            Some(others) => alone(Kind::Global, others),
+            None => Ok(Kind::Word),
+        },
+        b'l' => match word.strip_prefix(b"loop_") {
+            Some(others) => alone(Kind::Loop, others),
+            None => Ok(Kind::Word),
+        },
+        b's' => match word.strip_prefix(b"save_") {
+            Some(code) => frame(code),
+            None => match word.strip_prefix(b"stop_") {
+                Some(others) => alone(Kind::Stop, others),
+                None => Ok(Kind::Word),
+            },
+        },
+        b'_' => name(rest),
+        b'$' => reference(rest),
+        _ => Ok(Kind::Word),
     }
 }

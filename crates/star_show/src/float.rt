@@ -1,17 +1,13 @@
 // Floats, by their bits.
-use std::io;
+use std::fmt;
 
-// The bits of a float; 0 for one that is no number.
-fn bits(x: f64) -> u64 {
-    if x.is_nan() { 0 } else { x.to_bits() }
-}
+// A float, printed as the sixteen hexadecimal digits of its bits; as 0 where it is no number.
+#[derive(Clone, Copy)]
+pub struct Bits(pub f64);
 
-// Writes a number as sixteen hexadecimal digits.
-pub fn show_hex(rt: &impl Print, n: u64) -> io::Result<()> {
-    print!(rt; "{n:016x}")
-}
-
-// Writes the bits of a float in hexadecimal digits.
-pub fn show(rt: &impl Print, x: f64) -> io::Result<()> {
-    show_hex(rt, bits(x))
+impl fmt::Display for Bits {
+    fn fmt<W: fmt::Write>(&self, f: &mut fmt::Formatter<W>) -> fmt::Result {
+        let bits = if self.0.is_nan() { 0 } else { self.0.to_bits() };
+        write!(f, "{bits:016x}")
+    }
 }

@@ -1,154 +1,178 @@
-// What reading left in the five tables, and the slots of an index, kept in seven rows of 1,024 words: in row 1 word t is the count of table t and word
-// 5 + t is how many words of it are lent; its words stand in row t + 1. The slots are kept as table 6, which has no count.
-ghost use Rattle.std.specs.Prelude.{◌≡◌, length};
+// The five tables that calls write, and the slots of an index.
+ghost use Rattle.std.specs.Prelude.{◌≡◌};
 
-use crate::table::FILLED;
-use crate::{print, table, words};
-use star_read::Answer;
+use crate::print::{Outcome, Rows};
+use crate::words;
+use star_rows::{Counts, NAME_WIDTH, PACKET_WIDTH, SET_WIDTH, TOKEN_WIDTH, Tables, VALUE_WIDTH};
+use star_text::refusal::Refusal;
 use std::io;
 
-// Room for what is kept, with 1,024 words lent of each table.
-pub fn room() -> [u32; 7168]
-    ensures { 7168 ≡ length result }
-{
-    [1024; 7168]
+// What every word of a table is before a call.
+pub const FILLED: u32 = 4294967295;
+
+// The words of a table.
+const SIZE: usize = 1024;
+
+// One of the tables that are kept.
+#[derive(Clone, Copy)]
+pub enum Table {
+    Tokens,
+    Sets,
+    Names,
+    Packets,
+    Values,
+    Slots,
 }
 
-// A word of row 1.
-pub fn word(kept: &[u32], i: u32) -> u32 {
-    star_rows::word(kept, 1024, 1, i)
+// What calls left in the tables: their counts of rows, how many words of each are lent, and their words. Where more words are lent than a table has, those
+// of the next follow.
+#[derive(Drop)]
+pub struct Kept {
+    pub counts: Counts,
+    lent: [u32; 6],
+    tables: [[u32; 1024]; 6],
 }
 
-// How many words of a table are lent.
-fn lent_words(kept: &[u32], t: u32) -> usize {
-    word(kept, t.wrapping_add(5)) as usize
-}
-
-// The words of a table that are lent.
-pub fn lent(kept: &[u32], t: u32) -> &[u32] {
-    table::part(kept, t as usize * 1024, lent_words(kept, t))
-}
-
-// Prints the rows of a table of three words a row, and any word after them that is not 0.
-fn print_table(rt: &impl Print, kept: &[u32], t: u32) -> io::Result<()> {
-    print::rows(rt, lent(kept, t), word(kept, t) as usize * 3, 3)
-}
-
-// The same of a table of four words a row.
-fn print_wide_table(rt: &impl Print, kept: &[u32], t: u32) -> io::Result<()> {
-    print::rows(rt, lent(kept, t), word(kept, t) as usize * 4, 4)
-}
-
-// Prints the tables, with these bytes between them.
-fn print_tables(rt: &impl Print, kept: &[u32], between: &[u8]) -> io::Result<()> {
-    print_table(rt, kept, 1)?;
-    print::text(rt, between)?;
-    print_table(rt, kept, 2)?;
-    print::text(rt, between)?;
-    print_wide_table(rt, kept, 3)?;
-    print::text(rt, between)?;
-    print_table(rt, kept, 4)?;
-    print::text(rt, between)?;
-    print_wide_table(rt, kept, 5)
-}
-
-// Prints of an accepted file the counts and the rows of the five tables, and of a refused one any count or word that is not 0.
-pub fn print_kept(rt: &impl Print, refusal: u32, kept: &[u32]) -> io::Result<()> {
-    if refusal == 0 {
-        print::bar(rt)?;
-        print::rows(rt, table::part(kept, 1, 5), 5, 5)?;
-        print::bar(rt)?;
-        print_tables(rt, kept, b" ; ")
-    } else {
-        print::rows(rt, table::part(kept, 1, 5), 0, 5)?;
-        print_tables(rt, kept, b"")
+impl Kept {
+    // All words 1,024, and so many of each table lent.
+    pub fn new() -> Self {
+        Kept {
+            counts: Counts {
+                tokens: 1024,
+                sets: 1024,
+                names: 1024,
+                packets: 1024,
+                values: 1024,
+            },
+            lent: [1024; 6],
+            tables: [[1024; 1024]; 6],
+        }
     }
-}
 
-// The words of a table that are lent, to be written.
-pub fn lend<'a, 'b>(table: &'a mut [u32], kept: &'b [u32], t: u32) -> &'a mut [u32] {
-    let end = table::least(lent_words(kept, t), table.len());
-    &mut table[0..end]
-}
+    // The words of a table that are lent.
+    pub fn lent(&self, table: Table) -> &[u32] {
+        let words = self.tables[table as usize..].as_flattened();
+        words::first(words, self.lent[table as usize])
+    }
 
-// Keeps the five counts.
-pub fn keep_counts(
-    kept: &mut [u32],
-    tokens: u32,
-    sets: u32,
-    names: u32,
-    packets: u32,
-    values: u32,
-) {
-    table::copy(kept, 1, &[tokens, sets, names, packets, values]);
-}
+    // The words of the five tables that are lent.
+    pub fn lent_tables(&self) -> [&[u32]; 5] {
+        [
+            self.lent(Table::Tokens),
+            self.lent(Table::Sets),
+            self.lent(Table::Names),
+            self.lent(Table::Packets),
+            self.lent(Table::Values),
+        ]
+    }
 
-// Keeps the words of five tables.
-pub fn keep_tables(
-    kept: &mut [u32],
-    tokens: &[u32],
-    sets: &[u32],
-    names: &[u32],
-    packets: &[u32],
-    values: &[u32],
-) {
-    table::copy(kept, 1024, tokens);
-    table::copy(kept, 2048, sets);
-    table::copy(kept, 3072, names);
-    table::copy(kept, 4096, packets);
-    table::copy(kept, 5120, values);
-}
+    // Whether all tables but that of tokens have the same words.
+    pub fn same_rows(&self, other: &Kept) -> bool {
+        self.tables[1..5] == other.tables[1..5]
+    }
 
-// Keeps slots, so many of them lent.
-pub fn keep_slots(kept: &mut [u32], slots: &[u32], lent: u32) {
-    table::copy(kept, 11, &[lent]);
-    table::copy(kept, 6144, slots);
-}
+    // Makes a call with as many words of the five tables as are lent, none of them 0 before, and with the slots that are lent, and keeps what it leaves there.
+    pub fn call<R, F: FnOnce(&mut Tables, &mut [u32]) -> R>(&mut self, f: F) -> R
+        requires { F.IsAlwaysCallable f }
+    {
+        let [a, b, c, d, e, s] = self.lent;
+        let [mut tokens, mut sets, mut names, mut packets, mut values] = [[FILLED; 1024]; 5];
+        let mut slots = self.tables[5];
+        let answer = f(
+            &mut Tables {
+                tokens: words::first_mut(&mut tokens, a),
+                sets: words::first_mut(&mut sets, b),
+                names: words::first_mut(&mut names, c),
+                packets: words::first_mut(&mut packets, d),
+                values: words::first_mut(&mut values, e),
+            },
+            words::first_mut(&mut slots, s),
+        );
+        self.tables = [tokens, sets, names, packets, values, slots];
+        answer
+    }
 
-// Prints the slots that are lent.
-pub fn print_slots(rt: &impl Print, kept: &[u32]) -> io::Result<()> {
-    print::rows(rt, lent(kept, 6), 1024, 1024)
-}
+    // Keeps the counts that a call answered: no rows where it refused.
+    pub fn keep(&mut self, counts: Result<Counts, Refusal>) {
+        self.counts = counts.unwrap_or(Counts {
+            tokens: 0,
+            sets: 0,
+            names: 0,
+            packets: 0,
+            values: 0,
+        });
+    }
 
-// Reads a file of a layout into tables of as many words as are lent, none of them 0 before, and keeps what is left.
-pub(crate) fn read(file: &[u8], layout: u32, kept: &mut [u32]) -> Answer {
-    let mut tokens = [FILLED; 1024];
-    let mut sets = [FILLED; 1024];
-    let mut names = [FILLED; 1024];
-    let mut packets = [FILLED; 1024];
-    let mut values = [FILLED; 1024];
-    let answer = star_read::read_layout(
-        file,
-        layout,
-        lend(&mut tokens, kept, 1),
-        lend(&mut sets, kept, 2),
-        lend(&mut names, kept, 3),
-        lend(&mut packets, kept, 4),
-        lend(&mut values, kept, 5),
-    );
-    keep_tables(kept, &tokens, &sets, &names, &packets, &values);
-    keep_counts(
-        kept,
-        answer.tokens,
-        answer.sets,
-        answer.names,
-        answer.packets,
-        answer.values,
-    );
-    answer
-}
+    // Reads a file of a layout into the tables.
+    pub fn read(&mut self, file: &[u8], layout: u32) -> Result<Counts, Refusal> {
+        let counts = self.call(|tables, _| star_read::read_layout(file, layout, tables));
+        self.keep(counts);
+        counts
+    }
 
-// Reads a file of a layout, prints what came out and answers its refusal.
-pub fn show(rt: &impl Print, file: &[u8], layout: u32, kept: &mut [u32]) -> io::Result<u32> {
-    let answer = read(file, layout, kept);
-    print::two(rt, answer.refusal, answer.place)?;
-    print_kept(rt, answer.refusal, kept)?;
-    Ok(answer.refusal)
-}
+    // Reads a file of a layout, prints what came out and answers whether it was accepted.
+    pub fn show(&mut self, rt: &impl Print, file: &[u8], layout: u32) -> io::Result<bool> {
+        let counts = self.read(file, layout);
+        print!(rt; "{}", Outcome(counts.err()))?;
+        self.print(rt, counts.is_ok())?;
+        Ok(counts.is_ok())
+    }
 
-// Makes a word be another: its row, its place and what it is to be are given.
-pub fn set(given: &[u8], kept: &mut [u32]) {
-    let i = words::rest(given);
-    let at = words::number(given) as usize * 1024 + words::number(i) as usize;
-    table::copy(kept, at, &[words::number(words::rest(i))]);
+    // Lends so many slots.
+    pub fn lend_slots(&mut self, slots: [u32; 1024], lent: u32) {
+        self.tables[5] = slots;
+        self.lent[5] = lent;
+    }
+
+    // Makes a word be another. Words 1 to 5 of table 0 are the counts, 6 to 11 the lent words of each table; the tables follow from 1 on.
+    pub fn set(&mut self, table: u32, i: u32, word: u32) {
+        match table as usize * SIZE + i as usize {
+            1 => self.counts.tokens = word,
+            2 => self.counts.sets = word,
+            3 => self.counts.names = word,
+            4 => self.counts.packets = word,
+            5 => self.counts.values = word,
+            at @ 6..12 => self.lent[at - 6] = word,
+            at @ SIZE.. => {
+                if let Some(kept) = self.tables.as_flattened_mut().get_mut(at - SIZE) {
+                    *kept = word;
+                }
+            }
+            _ => {}
+        }
+    }
+
+    // The rows of a table, so many, and the words after them.
+    fn rows(&self, table: Table, count: u32, width: u32) -> Rows<'_> {
+        Rows::new(self.lent(table), count, width)
+    }
+
+    // Prints of an accepted file the counts and the rows of the five tables, and of a refused one any word that is not 0.
+    pub fn print(&self, rt: &impl Print, accepted: bool) -> io::Result<()> {
+        let Counts {
+            tokens: t,
+            sets: s,
+            names: n,
+            packets: p,
+            values: v,
+        } = self.counts;
+        let tokens = self.rows(Table::Tokens, t, TOKEN_WIDTH);
+        let sets = self.rows(Table::Sets, s, SET_WIDTH);
+        let names = self.rows(Table::Names, n, NAME_WIDTH);
+        let packets = self.rows(Table::Packets, p, PACKET_WIDTH);
+        let values = self.rows(Table::Values, v, VALUE_WIDTH);
+        if accepted {
+            print!(rt;
+                " | {t} {s} {n} {p} {v} | {tokens} ; {sets} ; {names} ; {packets} ; {values}"
+            )
+        } else {
+            print!(rt; "{tokens}{sets}{names}{packets}{values}")
+        }
+    }
+
+    // Prints the slots that are lent.
+    pub fn print_slots(&self, rt: &impl Print) -> io::Result<()> {
+        let slots = self.rows(Table::Slots, 1, 1024);
+        print!(rt; "{slots}")
+    }
 }

@@ -7,5 +7,4 @@ pub mod kept;
 pub mod notation;
 pub mod print;
 pub mod split;
-pub mod table;
 pub mod words;

@@ -1,20 +1,17 @@
 // The split of a file.
-use crate::print;
-use crate::table::FILLED;
+use crate::kept::FILLED;
+use crate::print::{Outcome, Rows};
 use std::io;
 
-// Prints the rows of a split.
-fn print_rows(rt: &impl Print, rows: &[u32], count: u32, refusal: u32) -> io::Result<()> {
-    if refusal == 0 {
-        print::bar(rt)?;
-    }
-    print::rows(rt, rows, count as usize * 3, 3)
-}
-
-// Splits a file and prints refusal, place and count, and the rows where it is accepted.
+// Splits a file and prints refusal, place and count, and its rows where it is accepted; on a refusal, any word that is not 0.
 pub fn run(rt: &impl Print, file: &[u8]) -> io::Result<()> {
-    let mut rows = [FILLED; 1024];
-    let answer = star_split::read_tokens(file, &mut rows);
-    print::three(rt, answer.refusal, answer.place, answer.count)?;
-    print_rows(rt, &rows, answer.count, answer.refusal)
+    let mut words = [FILLED; 1024];
+    let split = star_split::read_tokens(file, &mut words);
+    let count = split.unwrap_or(0);
+    print!(rt; "{} {count}", Outcome(split.err()))?;
+    if split.is_ok() {
+        print!(rt; " | ")?;
+    }
+    let rows = Rows::new(&words, count, star_rows::TOKEN_WIDTH);
+    print!(rt; "{rows}")
 }

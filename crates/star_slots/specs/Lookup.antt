@@ -4,7 +4,7 @@ use Rattle.std.proofs.Math.Option.{Option}
 use Rattle.star_rows.specs.Widths.{name_width}
 use Rattle.star_rows.specs.Rows.{word_of}
 use Rattle.star_find.specs.Find.{Lent, content_at, refused, meet, is_wanted, row_there, ask_on}
-use Rattle.star_find.specs.declared.Counts.{Counts}
+use Rattle.star_rows.specs.declared.Counts.{Counts}
 use Rattle.star_find.specs.declared.Found.{Found}
 use Rattle.star_hash.specs.Hash.{home_of}
 use Rattle.star_slots.specs.Slots.{slot_at, next_slot}

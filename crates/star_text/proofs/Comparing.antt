@@ -1,8 +1,11 @@
 -- Laws of the comparison: how it goes on from a place of both, and what it answers.
-use Rattle.std.proofs.Common.{◌≡◌, ℕ, zero, suc, ◌+◌, ◌<◌, ◌≤◌, Bool, true, false, eqb, List, [], ◌∷◌, length, get_or, take, drop, sym, refl, ◌∙◌, subst, add-one, arith, drop_of_length-le, drop-cons, eq-eqb, ne_eqb}
+use Rattle.std.proofs.Common.{◌≡◌, ℕ, zero, suc, ◌+◌, ◌<◌, ◌≤◌, Bool, true, false, eqb, List, [], ◌∷◌, length, get_or, take, drop, sym, refl, ◌∙◌, subst, add-zero, add-one, arith, drop_of_length-le, drop-cons, eq-eqb, ne_eqb}
 use Rattle.star_text.specs.Names.{key, same}
 use Rattle.star_text.specs.Compare.{pairs_of, compare_of}
-use Rattle.star_text.specs.Pairs.{Comparing, Two, Four, SameFour}
+use Rattle.std.specs.Int.{w32, from_le_bytes}
+use Rattle.std.proofs.lemmas.Nat.{le_bytes_4}
+use borrow.Author.Count.{below_more}
+use Rattle.star_text.specs.Pairs.{Comparing, SameFour, four_at}
 use Rattle.star_text.specs.Demands.{CompareEqual, ComparePairs, CompareStops}
 use Rattle.star_text.proofs.Cases.{cond-by}
 use Rattle.star_text.proofs.Names.{same_true, same-lengths, equal_is, equal_next, equal-differs, equal-end}
@@ -55,61 +58,53 @@ module _ (x y : List ℕ) where
     compare-ends h =
         compare-is c.lengths _ _ (sym (equal-end x y i h (omega (arith, c.lengths))) ∙ c.says) (omega (arith, pairs_end x y i h, c.counts))
 
--- four pairs, of which the first are equal
-module _ (x y : List ℕ) (i : ℕ) (c : Comparing x y i) (room : i + 4 ≤ length x) where
-  differs_at : (n k : ℕ) → Comparing x y n → n < length x → (get_or x n 0 ≡ get_or y n 0 → ⊥) → n + 1 ≡ k → record { equal = false; pairs = k } ≡ compare_of x y
-  differs_at n k d h e q = subst (λ m. record { equal = false; pairs = m } ≡ compare_of x y) q (compare-differs x y n d h e)
+-- pairs from a place on that are equal
+pub record Passed (x y : List ℕ) (at i : ℕ) : Type 0 where
+  pub comparing : Comparing x y (at + i)
+  pub same : (k : ℕ) → k < i → get_or x (at + k) 0 ≡ get_or y (at + k) 0
 
-  pub first-differs : (get_or x i 0 ≡ get_or y i 0 → ⊥) → record { equal = false; pairs = i + 1 } ≡ compare_of x y
-  first-differs d = compare-differs x y i c (omega arith) d
+module _ (x y : List ℕ) (at : ℕ) where
+  pub passed-none : Comparing x y at → Passed x y at 0
+  passed-none c = record { comparing = subst (Comparing x y) (omega arith) c; same = λ k h. absurd (omega (arith, h)) }
 
-  module _ (e : get_or x i 0 ≡ get_or y i 0) where
-    one : Comparing x y (i + 1)
-    one = compare-next x y i c (omega arith) e
+  module _ (i : ℕ) (p : Passed x y at i) where
+    pub passed-more : at + i < length x → get_or x (at + i) 0 ≡ get_or y (at + i) 0 → Passed x y at (i + 1)
+    passed-more h e = record {
+      comparing = subst (Comparing x y) (omega arith) (compare-next x y (at + i) p.comparing h e);
+      same = below_more _ _ p.same e;
+    }
 
-    pub second-differs : (get_or x (i + 1) 0 ≡ get_or y (i + 1) 0 → ⊥) → record { equal = false; pairs = i + 2 } ≡ compare_of x y
-    second-differs d = differs_at (i + 1) (i + 2) one (omega arith) d (omega arith)
+    pub passed-differs : at + i < length x → (get_or x (at + i) 0 ≡ get_or y (at + i) 0 → ⊥)
+        → record { equal = false; pairs = at + (i + 1) } ≡ compare_of x y
+    passed-differs h d =
+        subst (λ n. record { equal = false; pairs = n } ≡ compare_of x y) (omega arith) (compare-differs x y (at + i) p.comparing h d)
 
-    module _ (f : get_or x (i + 1) 0 ≡ get_or y (i + 1) 0) where
-      two : Comparing x y (i + 2)
-      two = subst (Comparing x y) (omega arith) (compare-next x y (i + 1) one (omega arith) f)
+  -- four of which the first three are equal
+  pub passed-three : Passed x y at 3 → at + 3 < length x → (SameFour x y at → ⊥) → record { equal = false; pairs = at + 4 } ≡ compare_of x y
+  passed-three p h d = passed-differs 3 p h (λ e. d (rw add-zero at (p.same 0 (omega arith)), p.same 1 (omega arith), p.same 2 (omega arith), e))
 
-      pub third-differs : (get_or x (i + 2) 0 ≡ get_or y (i + 2) 0 → ⊥) → record { equal = false; pairs = i + 3 } ≡ compare_of x y
-      third-differs d = differs_at (i + 2) (i + 3) two (omega arith) d (omega arith)
+  -- four that are
+  pub passed-four : Comparing x y at → at + 4 ≤ length x → SameFour x y at → Comparing x y (at + 4)
+  passed-four c h s =
+      let one : Passed x y at 1 = passed-more 0 (passed-none c) (omega arith) (rw add-zero s.0) in
+      let two : Passed x y at 2 = passed-more 1 one (omega arith) s.1 in
+      let three : Passed x y at 3 = passed-more 2 two (omega arith) s.2 in
+      (passed-more 3 three (omega arith) s.3).comparing
 
-      module _ (g : get_or x (i + 2) 0 ≡ get_or y (i + 2) 0) where
-        three : Comparing x y (i + 3)
-        three = subst (Comparing x y) (omega arith) (compare-next x y (i + 2) two (omega arith) g)
+-- four bytes as one number: equal where the bytes are
+four-small : (x : List ℕ) (at : ℕ) → ((i : ℕ) → get_or x i 0 < 256) → (i : ℕ) → get_or (four_at x at) i 0 < 256
+four-small x at h zero = h at
+four-small x at h (suc zero) = h (at + 1)
+four-small x at h (suc (suc zero)) = h (at + 2)
+four-small x at h (suc (suc (suc zero))) = h (at + 3)
+four-small x at h (suc (suc (suc (suc i)))) = omega arith
 
-        pub fourth-differs : (SameFour x y i → ⊥) → record { equal = false; pairs = i + 4 } ≡ compare_of x y
-        fourth-differs d = differs_at (i + 3) (i + 4) three (omega arith) (λ h. d (e, f, g, h)) (omega arith)
-
-        all-equal : get_or x (i + 3) 0 ≡ get_or y (i + 3) 0 → Comparing x y (i + 4)
-        all-equal h = subst (Comparing x y) (omega arith) (compare-next x y (i + 3) three (omega arith) h)
-
-  pub compare-four : SameFour x y i → Comparing x y (i + 4)
-  compare-four s = all-equal s.0 s.1 s.2 s.3
-
--- bytes as one number: equal where the bytes are
-two-equal : (x y : List ℕ) (i n : ℕ) → Two x i n → Two y i n → (get_or x i 0 ≡ get_or y i 0) × (get_or x (i + 1) 0 ≡ get_or y (i + 1) 0)
-two-equal x y i n t u = (omega (arith, t.value, u.value, t.first, u.first), omega (arith, t.value, u.value, t.first, u.first))
-
-two-small : (x : List ℕ) (i n : ℕ) → Two x i n → n < 65536
-two-small x i n t = omega (arith, t.value, t.first, t.second)
-
-module _ (x y : List ℕ) (i : ℕ) where
-  pub four-equal : (n : ℕ) → Four x i n → Four y i n → SameFour x y i
-  four-equal n f g =
-      let low : f.low ≡ g.low = omega (arith, f.value, g.value, two-small x i f.low f.front, two-small y i g.low g.front) in
-      let high : f.high ≡ g.high = omega (arith, f.value, g.value, two-small x i f.low f.front, two-small y i g.low g.front) in
-      let front : (get_or x i 0 ≡ get_or y i 0) × (get_or x (i + 1) 0 ≡ get_or y (i + 1) 0) = two-equal x y i f.low f.front (rw low g.front) in
-      let back : (get_or x (i + 2) 0 ≡ get_or y (i + 2) 0) × (get_or x (i + 2 + 1) 0 ≡ get_or y (i + 2 + 1) 0) = two-equal x y (i + 2) f.high f.back (rw high g.back) in
-      (front.0, front.1, back.0, subst (λ k. get_or x k 0 ≡ get_or y k 0) (omega arith) back.1)
-
-  pub four-differs : (m n : ℕ) → Four x i m → Four y i n → (m ≡ n → ⊥) → SameFour x y i → ⊥
-  four-differs m n f g d s =
-      let last : get_or x (i + 2 + 1) 0 ≡ get_or y (i + 2 + 1) 0 = subst (λ k. get_or x k 0 ≡ get_or y k 0) (omega arith) s.3 in
-      d (omega (arith, f.value, g.value, f.front.value, g.front.value, f.back.value, g.back.value, s.0, s.1, s.2, last))
+module _ (x y : List ℕ) (at m n : ℕ) (f : m ≡ from_le_bytes w32 (four_at x at)) (g : n ≡ from_le_bytes w32 (four_at y at)) where
+  pub four-equal : ((i : ℕ) → get_or x i 0 < 256) → ((i : ℕ) → get_or y i 0 < 256) → m ≡ n → SameFour x y at
+  four-equal h k e =
+      let p : four_at x at ≡ four_at y at =
+      sym (le_bytes_4 (four_at x at) m refl (four-small x at h) f) ∙ le_bytes_4 (four_at y at) m refl (four-small y at k) (e ∙ g) in
+      (cc, cc, cc, cc)
 
 pub compare-equal : CompareEqual
 unfolding compare_of same key

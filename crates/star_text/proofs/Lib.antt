@@ -1,3 +1,4 @@
+pub mod Reasons
 pub mod Cases
 pub mod Bytes
 pub mod Classes
@@ -6,3 +7,4 @@ pub mod Comparing
 pub mod Outcome
 pub mod Run
 pub mod Within
+pub mod Refusals

@@ -1,5 +1,8 @@
 -- Laws of `leading`: how far it goes, seen from a place of the list.
-use Rattle.std.proofs.Common.{◌≡◌, ℕ, zero, suc, ◌+◌, ◌<◌, ◌≤◌, Bool, true, false, cond, ltb, List, [], ◌∷◌, length, get_or, take, drop, sym, refl, ap, ◌∙◌, suc-le-suc, zero-le, add-zero, add-suc, suc-add, add-one, arith, drop_of_length-le, drop-cons, ltb-false, ltb-true}
+use Rattle.std.proofs.Common.{◌≡◌, ℕ, zero, suc, ◌+◌, ◌<◌, ◌≤◌, Bool, true, false, cond, not, ltb, List, [], ◌∷◌, length, get_or, take, drop, sym, refl, ap, ◌∙◌, suc-le-suc, zero-le, add-zero, add-suc, suc-add, add-one, arith, drop_of_length-le, drop-cons, ltb-false, ltb-true}
+use Rattle.std.specs.Prelude.{Some, None, position}
+use Rattle.std.specs.List.{position_or_len}
+use Rattle.std.specs.Option.{unwrap_or}
 use Rattle.star_text.specs.Bytes.{leading}
 
 module _ (p : ℕ → Bool) (xs : List ℕ) (at : ℕ) where
@@ -40,19 +43,32 @@ module _ (p : ℕ → Bool) where
       cond-take true e = ap (λ r. x ∷ r) e
       cond-take false e = refl
 
+  run_prefix : (xs : List ℕ) → position_or_len (λ x. not (p x)) xs ≡ length (leading p xs)
+  unfolding leading
+  run_prefix [] = refl
+  run_prefix (x ∷ xs) = go (p x) (run_prefix xs)
+    where
+      go : (t : Bool) → position_or_len (λ x. not (p x)) xs ≡ length (leading p xs)
+          → cond (not (not t)) (1 + position_or_len (λ x. not (p x)) xs) 0 ≡ length (cond t (x ∷ leading p xs) [])
+      go true e = omega (arith, e)
+      go false e = refl
+
+  -- the place of the first that fails, or the length
+  pub run_position : (xs : List ℕ) → unwrap_or (position (λ x. not (p x)) xs) (length xs) ≡ length (leading p xs)
+  run_position xs = go (ltb n (length xs)) refl
+    where
+      n : ℕ
+      n = position_or_len (λ x. not (p x)) xs
+
+      go : (t : Bool) → ltb n (length xs) ≡ t → unwrap_or (cond t (Some n) None) (length xs) ≡ length (leading p xs)
+      go true q = run_prefix xs
+      go false q = omega (arith, ltb-false _ _ q, run_prefix xs, run_length xs)
+
 -- tests that agree on bytes give the same run of bytes
 pub run_agree : (p q : ℕ → Bool) → ((b : ℕ) → b < 256 → p b ≡ q b) → (xs : List ℕ) → ((i : ℕ) → get_or xs i 0 < 256) → leading p xs ≡ leading q xs
 unfolding leading
 run_agree p q f [] h = refl
 run_agree p q f (x ∷ xs) h = rw (f x (h 0), run_agree p q f xs (λ i. h (suc i)))
-
--- what holds of each of four places
-pub each-of-four : (P : ℕ → Type 0) → P 0 → P 1 → P 2 → P 3 → (k : ℕ) → k < 4 → P k
-each-of-four P a b c d zero h = a
-each-of-four P a b c d (suc zero) h = b
-each-of-four P a b c d (suc (suc zero)) h = c
-each-of-four P a b c d (suc (suc (suc zero))) h = d
-each-of-four P a b c d (suc (suc (suc (suc k)))) h = absurd (omega arith)
 
 -- past four bytes that pass
 module _ (p : ℕ → Bool) (xs : List ℕ) where

@@ -1,5 +1,5 @@
--- How far two contents were compared, and bytes as one number. For contracts of star_text's inner functions.
-use Rattle.std.specs.Prelude.{◌≡◌, ℕ, ◌+◌, ◌*◌, ◌<◌, ◌≤◌, List, length, drop, slice_index, slice_index_or}
+-- How far two contents were compared, and four bytes. For contracts of star_text's inner functions.
+use Rattle.std.specs.Prelude.{◌≡◌, ℕ, ◌+◌, ◌≤◌, List, [], ◌∷◌, length, drop, slice_index}
 use Rattle.star_text.specs.Names.{key, equal, same}
 use Rattle.star_text.specs.Compare.{pairs_of}
 
@@ -10,19 +10,9 @@ pub record Comparing (x y : List ℕ) (at : ℕ) : Type 0 where
   pub says : equal (drop at x) (drop at y) ≡ same x y
   pub counts : at + pairs_of (drop at x) (drop at y) ≡ pairs_of (key x) (key y)
 
--- two bytes from a place on as one number
-pub record Two (bytes : List ℕ) (at n : ℕ) : Type 0 where
-  pub value : n ≡ slice_index bytes at + slice_index bytes (at + 1) * 256
-  pub first : slice_index_or bytes at 0 < 256
-  pub second : slice_index_or bytes (at + 1) 0 < 256
-
--- four bytes, as two of twos
-pub record Four (bytes : List ℕ) (at n : ℕ) : Type 0 where
-  pub low : ℕ
-  pub high : ℕ
-  pub front : Two bytes at low
-  pub back : Two bytes (at + 2) high
-  pub value : n ≡ low + high * 65536
+-- four bytes from a place on
+abbrev pub four_at : List ℕ → ℕ → List ℕ
+four_at bytes at = slice_index bytes at ∷ slice_index bytes (at + 1) ∷ slice_index bytes (at + 2) ∷ slice_index bytes (at + 3) ∷ []
 
 -- four equal pairs of bytes from a place on
 abbrev pub SameFour : (x y : List ℕ) (at : ℕ) → Type 0

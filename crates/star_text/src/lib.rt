@@ -1,16 +1,20 @@
 // The bytes of a STAR File: the class of a byte, the first byte that is not allowed, and the comparison of two names or codes.
 #![tactic(auto)]
 
-ghost use Rattle.std.specs.Prelude.{◌≡◌, ℕ, ◌+◌, ◌<◌, ◌≤◌, true, false, length, drop, slice_index};
+pub mod refusal;
+
+ghost use Rattle.std.specs.Prelude.{◌≡◌, ℕ, ◌+◌, ◌<◌, ◌≤◌, true, false, not, length, drop, slice_index, position};
+ghost use Rattle.std.specs.Int.{w32, from_le_bytes};
 ghost use Rattle.star_text.specs.Bytes.{is_allowed, first_refused, leading};
 ghost use Rattle.star_text.specs.Classes.{Classes, class_in, terminate_in, white_in, below_in};
 ghost use Rattle.star_text.specs.Compare.{compare_of};
-ghost use Rattle.star_text.specs.Pairs.{Two, Four, Comparing, SameFour, Skipped};
+ghost use Rattle.star_text.specs.Pairs.{four_at, Comparing, SameFour, Skipped};
 
 // The most bytes that a file may have.
 pub const MOST_BYTES: usize = 1048576;
 
-// Of the classes of bytes, those of white space: 0 is not allowed, 1 printable, 2 blank, 3 terminate.
+// Of the classes of bytes, those of white space: 0 is not allowed, 1 printable, 2 blank, 3 terminate. Numbers and no enum: `run_end` takes any table that
+// is lent and any class, as its clause says.
 const BLANK: u8 = 2;
 
 const TERMINATE: u8 = 3;
@@ -56,66 +60,34 @@ pub fn is_terminate(classes: &[u8; 256], b: u8) -> bool
 }
 
 // Whether a byte is allowed: 9 to 13 and 32 to 126.
+#[tactic(auto, unfolding(crate::specs::Bytes::is_allowed))]
 fn is_allowed(b: u8) -> bool
     ensures { result ≡ is_allowed b }
 {
-    if b < 9 {
-        return false;
-    }
-    if b <= 13 {
-        return true;
-    }
-    if b < 32 {
-        return false;
-    }
-    b <= 126
+    matches!(b, 9..=13 | 32..=126)
 }
 
-// The lesser of two bytes.
-fn lesser(a: u8, b: u8) -> u8
-    ensures { (result ≤ a) × (result ≤ b) }
-{
-    if a < b { a } else { b }
-}
-
-// The greater of two bytes.
-fn greater(a: u8, b: u8) -> u8
-    ensures { (a ≤ result) × (b ≤ result) }
-{
-    if a < b { b } else { a }
-}
-
-// How far a byte lies above 14; bytes below 14 lie far above.
-fn above(b: u8) -> u8
-    ensures { 14 ≤ b → result + 14 ≡ b }
-{
-    std::num::wrapping_sub_u8(b, 14)
-}
-
-// Answers true only where every byte is allowed: none is below 9, above 126, or from 14 to 31.
+// Answers true only where every byte is allowed: none is below 9, above 126, or from 14 to 31, which lie less than 18 above 14; those below 14 wrap
+// far above. Bounds over the whole file in place of a test of each byte: of many bytes at once, which a test that ends at a byte does not let the compiler do.
 fn all_allowed(file: &[u8]) -> bool
     ensures { result ≡ true → first_refused file.now ≡ length file.now }
 {
     let mut low = 255u8;
     let mut high = 0u8;
     let mut over = 255u8;
-    let mut at = 0;
-    while at < file.len() {
-        low = lesser(low, file[at]);
-        high = greater(high, file[at]);
-        over = lesser(over, above(file[at]));
-        at += 1;
+    for b in file {
+        low = low.min(*b);
+        high = high.max(*b);
+        over = over.min(b.wrapping_sub(14));
     }
-    if low < 9 {
-        return false;
-    }
-    if 126 < high {
-        return false;
-    }
-    if over < 18 {
-        return false;
-    }
-    true
+    9 <= low && high <= 126 && 18 <= over
+}
+
+// The place of the first byte that is not allowed.
+fn refused_at(file: &[u8]) -> Option<usize>
+    ensures { result ≡ position (λ b. not (is_allowed b)) file.now }
+{
+    file.iter().position(|b| !is_allowed(*b))
 }
 
 // The place of the first byte that is not allowed, or the file's length where there is none.
@@ -125,14 +97,7 @@ pub fn first_refused(file: &[u8]) -> usize
     if all_allowed(file) {
         return file.len();
     }
-    let mut at = 0;
-    while at < file.len() {
-        if !is_allowed(file[at]) {
-            return at;
-        }
-        at += 1;
-    }
-    at
+    refused_at(file).unwrap_or(file.len())
 }
 
 // Answers true only where the classes of the four bytes from a place on are below `class`.
@@ -140,22 +105,16 @@ fn four_below(classes: &[u8; 256], file: &[u8], at: usize, class: u8) -> bool
     requires { at + 3 < length file.now }
     ensures { result ≡ true → (k : ℕ) → k < 4 → below_in classes.now class (slice_index file.now (at + k)) ≡ true }
 {
-    if class <= class_of(classes, file[at]) {
-        return false;
-    }
-    if class <= class_of(classes, file[at + 1]) {
-        return false;
-    }
-    if class <= class_of(classes, file[at + 2]) {
-        return false;
-    }
-    if class <= class_of(classes, file[at + 3]) {
-        return false;
+    for i in 0..4 {
+        if class <= class_of(classes, file[at + i]) {
+            return false;
+        }
     }
     true
 }
 
-// A place of the run from `from` on of bytes whose class is below `class`, which ends where the run from there ends: four are passed at a time.
+// A place of the run from `from` on of bytes whose class is below `class`, which ends where the run from there ends: four are passed at a time. Chunks of the
+// rest would be no plainer: `from` may lie behind the file, and the place is counted beside them.
 fn skip_below(classes: &[u8; 256], file: &[u8], from: usize, class: u8) -> usize
     ensures { result + length (leading (below_in classes.now class) (drop result file.now))
         ≡ from + length (leading (below_in classes.now class) (drop from file.now)) }
@@ -177,34 +136,25 @@ fn skip_below(classes: &[u8; 256], file: &[u8], from: usize, class: u8) -> usize
 pub fn run_end(classes: &[u8; 256], file: &[u8], from: usize, class: u8) -> usize
     ensures { result ≡ from + length (leading (below_in classes.now class) (drop from file.now)) }
 {
-    let mut at = skip_below(classes, file, from, class);
-    while at < file.len() {
-        if class_of(classes, file[at]) < class {
-            at += 1;
-        } else {
+    let skipped = skip_below(classes, file, from, class);
+    for at in skipped..file.len() {
+        if class <= class_of(classes, file[at]) {
             return at;
         }
     }
-    at
-}
-
-// Two bytes as one number.
-fn two(bytes: &[u8], at: usize) -> u32
-    requires { at + 2 ≤ length bytes.now }
-    ensures { Two bytes.now at result }
-{
-    bytes[at] as u32 + bytes[at + 1] as u32 * 256
+    skipped.max(file.len())
 }
 
 // Four bytes as one number, which the compiler loads at once.
 fn four(bytes: &[u8], at: usize) -> u32
     requires { at + 4 ≤ length bytes.now }
-    ensures { Four bytes.now at result }
+    ensures { result ≡ from_le_bytes w32 (four_at bytes.now at) }
 {
-    two(bytes, at) + two(bytes, at + 2) * 65536
+    u32::from_le_bytes([bytes[at], bytes[at + 1], bytes[at + 2], bytes[at + 3]])
 }
 
-// Where four bytes first are not the four of the other, or fewer than four are left.
+// Where four bytes first are not the four of the other, or fewer than four are left. Chunks of both would be no plainer: the place is asked for in bytes, of four
+// that differ and of the end of the last whole four alike.
 fn skip_same(a: &[u8], b: &[u8]) -> usize
     requires { length a.now ≡ length b.now }
     ensures { Skipped a.now b.now result }
@@ -235,14 +185,11 @@ fn pairs_of_four(a: &[u8], b: &[u8], at: usize) -> usize
     ensures upper_bound { result ≤ 4 }
     ensures result_value { record { equal = false; pairs = at + result } ≡ compare_of a.now b.now }
 {
-    if a[at] != b[at] {
-        return 1;
-    }
-    if a[at + 1] != b[at + 1] {
-        return 2;
-    }
-    if a[at + 2] != b[at + 2] {
-        return 3;
+    for i in 0..3 {
+        if a[at + i] != b[at + i] {
+            let compared = i + 1;
+            return compared;
+        }
     }
     4
 }
@@ -252,8 +199,7 @@ fn compare_from(a: &[u8], b: &[u8], from: usize) -> Comparison
     requires { Comparing a.now b.now from }
     ensures { result ≡ compare_of a.now b.now }
 {
-    let mut at = from;
-    while at < a.len() {
+    for at in from..a.len() {
         if a[at] != b[at] {
             let pairs = at + 1;
             return Comparison {
@@ -261,11 +207,10 @@ fn compare_from(a: &[u8], b: &[u8], from: usize) -> Comparison
                 pairs,
             };
         }
-        at += 1;
     }
     Comparison {
         equal: true,
-        pairs: at,
+        pairs: a.len(),
     }
 }
 

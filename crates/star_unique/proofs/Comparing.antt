@@ -15,8 +15,7 @@ use Rattle.star_unique.specs.Repeat.{nothing, first_repeat}
 use Rattle.star_lex.specs.Holds.{file_tokens}
 use Rattle.star_lex.specs.Rules.{layout_rules}
 use Rattle.star_grammar.specs.Layout.{today_row, today_from}
-use Rattle.star_unique.specs.Compared.{compared_of}
-use Rattle.star_unique.specs.declared.Compared.{Compared}
+use Rattle.star_unique.specs.Compared.{Compared, compared_of}
 
 -- an answer tells the split
 pub compared-refused : (layout : ℕ) (s : Split) (r : Compared) → r ≡ compared_of layout s → (r.refusal ≡ 0 → ⊥) → s ≡ refused r.refusal r.place

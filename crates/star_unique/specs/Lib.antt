@@ -1,4 +1,5 @@
 pub mod Repeat
+pub mod Sorts
 pub mod Chain
 pub mod Marked
 pub mod Compared

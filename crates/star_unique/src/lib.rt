@@ -8,8 +8,12 @@ ghost use Rattle.star_text.specs.Names.{same as names_same};
 ghost use Rattle.star_unique.specs.Repeat.{nothing, first_repeat};
 ghost use Rattle.star_lex.specs.Holds.{file_tokens, token_at};
 ghost use Rattle.star_unique.specs.Chain.{name_sort, floor_of, opens_block, is_value_kind, passed, scope_at, hash_of, bucket_of, sign_of, bucket_at, latest, earlier, unmarked_kind, kinds_in, unmarked, token_by, with_kinds};
+ghost use Rattle.star_unique.specs.Sorts.{number, number_of};
 ghost use Rattle.star_unique.specs.Marked.{Spans, Plain, Marked, Heads, Visited};
-ghost use Rattle.star_unique.specs.Compared.{Compares};
+ghost use Rattle.star_unique.specs.Compared.{compared, Compares};
+
+use star_lex::kind::Kind;
+use star_text::refusal::Refusal;
 
 // The words of a row of table 1.
 const WIDTH: usize = star_rows::TOKEN_WIDTH as usize;
@@ -33,71 +37,86 @@ struct Scope {
     inside: bool,
 }
 
-// What a token is compared as: 1 a block code, 2 a frame code, 6 a name of a block, 13 a name of a frame, 0 nothing.
-fn sort_of(inside: bool, kind: u32) -> u32
-    ensures { result ≡ name_sort inside kind }
+// What a name or code is compared as, by the number that its mark has.
+#[derive(Clone, Copy)]
+enum Sort {
+    BlockCode = 1,
+    FrameCode = 2,
+    Name = 6,
+    FrameName = 13,
+}
+
+impl Sort {
+    // Its number.
+    fn number(self) -> u32
+        ensures { result ≡ number self }
+    {
+        self as u32
+    }
+}
+
+// What a token is compared as; none where it is no name or code.
+#[tactic(auto, unfolding(crate::specs::Chain::name_sort))]
+fn sort_of(inside: bool, kind: u32) -> Option<Sort>
+    ensures { number_of result ≡ name_sort inside kind }
 {
-    if kind == 6 {
-        if inside {
-            return 13;
-        }
-        return 6;
+    if kind == Kind::Name.number() {
+        Some(if inside { Sort::FrameName } else { Sort::Name })
+    } else if kind == Kind::Block.number() {
+        Some(Sort::BlockCode)
+    } else if kind == Kind::Frame.number() {
+        Some(Sort::FrameCode)
+    } else {
+        None
     }
-    if kind == 1 {
-        return 1;
-    }
-    if kind == 2 {
-        return 2;
-    }
-    0
 }
 
 // The first row of the scope that a name or code of this sort is unique in.
-fn floor_of(scope: Scope, sort: u32) -> usize
-    ensures { result ≡ floor_of scope sort }
+#[tactic(auto, unfolding(crate::specs::Chain::floor_of))]
+fn floor_of(scope: Scope, sort: Sort) -> usize
+    ensures { result ≡ floor_of scope (number sort) }
 {
-    if sort == 1 {
-        return 0;
+    match sort {
+        Sort::BlockCode => 0,
+        Sort::FrameCode => scope.block,
+        Sort::Name => scope.block,
+        Sort::FrameName => scope.frame,
     }
-    if sort == 13 {
-        return scope.frame;
-    }
-    scope.block
 }
 
 // Whether a token of this kind is a heading or `global_`.
+#[tactic(auto, unfolding(crate::specs::Chain::opens_block))]
 fn opens_block(kind: u32) -> bool
     ensures { result ≡ opens_block kind }
 {
-    if kind == 1 { true } else { kind == 12 }
+    kind == Kind::Block.number() || kind == Kind::Global.number()
 }
 
 // The scopes after a token of this kind, whose next row is `next`.
+#[tactic(auto, unfolding(crate::specs::Chain::passed))]
 fn pass(scope: Scope, kind: u32, next: usize) -> Scope
     ensures { result ≡ passed scope kind next }
 {
     if opens_block(kind) {
-        return Scope {
+        Scope {
             block: next,
             frame: next,
             inside: false,
-        };
-    }
-    if kind == 2 {
-        return Scope {
-            block: scope.block,
+        }
+    } else if kind == Kind::Frame.number() {
+        Scope {
             frame: next,
             inside: true,
-        };
-    }
-    if kind == 3 {
-        return Scope {
-            block: scope.block,
-            frame: scope.frame,
+            ..scope
+        }
+    } else if kind == Kind::FrameEnd.number() {
+        Scope {
             inside: false,
-        };
+            ..scope
+        }
+    } else {
+        scope
     }
-    scope
 }
 
 // The hash of a name or code, of 20 bits: the low 12 are its bucket, and its sort and above it the other 8 are its sign.
@@ -105,10 +124,8 @@ fn hash(sort: u32, bytes: &[u8]) -> u32
     ensures { result ≡ hash_of sort bytes.now }
 {
     let mut h = sort % 1048576;
-    let mut i = 0;
-    while i < bytes.len() {
-        h = (h * 2685 + bytes[i] as u32) % 1048576;
-        i += 1;
+    for b in bytes {
+        h = (h * 2685 + *b as u32) % 1048576;
     }
     h
 }
@@ -119,11 +136,8 @@ fn is_equal(file: &[u8], tokens: &[u32], count: usize, m: usize, sign: u32, byte
     requires m_lt_count { m < count }
     ensures { result ≡ (eqb (get_or tokens.now (m * token_width) 0 % 4096) sign && names_same bytes.now (token_at file.now m).content) }
 {
-    if tokens[m * WIDTH] % 4096 != sign {
-        return false;
-    }
-    let compared = star_text::compare(bytes, span(file, tokens, count, m));
-    compared.equal
+    tokens[m * WIDTH] % 4096 == sign
+        && star_text::compare(bytes, span(file, tokens, count, m)).equal
 }
 
 // Whether a token before `n`, not before `floor`, is of this sign's sort and has these bytes: the rows of their bucket are followed from the last.
@@ -169,15 +183,14 @@ fn visit(
     requires scope_value { scope ≡ scope_at (token_by file.now (kinds_in tokens.old)) n }
     ensures { Visited file.now tokens.old count n result tokens.new heads.new }
 {
-    let inside = scope.inside;
-    let sort = sort_of(inside, tokens[n * WIDTH]);
-    if sort == 0 {
+    let Some(sort) = sort_of(scope.inside, tokens[n * WIDTH]) else {
         return false;
-    }
+    };
     let bytes = span(file, tokens, count, n);
-    let h = hash(sort, bytes);
+    let number = sort.number();
+    let h = hash(number, bytes);
     let b = (h % 4096) as usize;
-    let sign = sort + h / 4096 * 16;
+    let sign = number + h / 4096 * 16;
     let last = heads[b];
     if follow(
         file,
@@ -197,10 +210,11 @@ fn visit(
 }
 
 // Whether a token of this kind is a value.
+#[tactic(auto, unfolding(crate::specs::Chain::is_value_kind))]
 fn is_value(kind: u32) -> bool
     ensures { result ≡ is_value_kind kind }
 {
-    if kind < 7 { false } else { kind < 12 }
+    7 <= kind && kind < 12
 }
 
 // How many tokens stand before the first that is taken; those are marked. Values are passed over.
@@ -216,31 +230,30 @@ fn mark(file: &[u8], tokens: &mut [u32], count: usize, heads: &mut [u32]) -> usi
         frame: 0,
         inside: false,
     };
-    let mut n = 0;
-    while n < count {
+    for n in 0..count {
         let kind = tokens[n * WIDTH];
         if is_value(kind) {
-            n += 1;
             continue;
         }
         if visit(file, tokens, count, heads, n, scope) {
             return n;
         }
-        n += 1;
-        scope = pass(scope, kind, n);
+        scope = pass(scope, kind, n + 1);
     }
-    n
+    count
 }
 
 // The kind of a token from its word, marked or not.
+#[tactic(auto, unfolding(crate::specs::Chain::unmarked_kind))]
 fn kind_of(word: u32) -> u32
     ensures { result ≡ unmarked_kind word }
 {
     let low = word % 16;
-    if low == 13 {
-        return 6;
+    if low == Sort::FrameName.number() {
+        Kind::Name.number()
+    } else {
+        low
     }
-    low
 }
 
 // Puts the kinds of so many tokens back.
@@ -249,10 +262,8 @@ fn unmark(file: &[u8], tokens: &mut [u32], count: usize, rows: usize)
     requires rows_le_count { rows ≤ count }
     ensures { tokens.new ≡ unmarked rows tokens.old }
 {
-    let mut n = 0;
-    while n < rows {
+    for n in 0..rows {
         tokens[n * WIDTH] = kind_of(tokens[n * WIDTH]);
-        n += 1;
     }
 }
 
@@ -268,36 +279,19 @@ fn first_repeat(file: &[u8], tokens: &mut [u32], count: usize) -> usize
     n
 }
 
-// What reading the tokens answers: refusal and place, both 0 when accepted; the number of tokens; and how many of them stand before the first that
-// repeats a name or code of its scope, all of them where none does.
+// How many tokens a file has, and how many of them stand before the first that repeats a name or code of its scope, all of them where none does.
 #[derive(Clone, Copy)]
 pub struct Compared {
-    pub refusal: u32,
-    pub place: u32,
     pub count: u32,
     pub taken: usize,
 }
 
 // Splits a file into tokens, stores them as table 1, with the kinds of today's layout, and looks for the first that repeats a name or code; on a refusal every word of the table is 0.
-pub fn read_tokens(file: &[u8], layout: u32, table: &mut [u32]) -> Compared
-    ensures { Compares layout file.now table.old table.new result }
+pub fn read_tokens(file: &[u8], layout: u32, table: &mut [u32]) -> Result<Compared, Refusal>
+    ensures { Compares layout file.now table.old table.new (compared result) }
 {
-    let found = star_split::read_tokens(file, table);
-    if found.refusal != 0 {
-        return Compared {
-            refusal: found.refusal,
-            place: found.place,
-            count: 0,
-            taken: 0,
-        };
-    }
-    let count = found.count;
+    let count = star_split::read_tokens(file, table)?;
     star_frames::to_today(layout, table, count as usize);
     let taken = first_repeat(file, table, count as usize);
-    Compared {
-        refusal: 0,
-        place: 0,
-        count,
-        taken,
-    }
+    Ok(Compared { count, taken })
 }

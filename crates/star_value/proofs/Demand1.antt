@@ -7,9 +7,8 @@ use Rattle.star_rows.specs.Rows.{word_of}
 use Rattle.star_lex.specs.Table.{or_empty}
 use Rattle.star_find.specs.Find.{is_row, content_at}
 use Rattle.star_find.proofs.Looking.{Inside, part-inside}
-use Rattle.star_value.specs.Values.{missing, locate, value_of, value_at, value_part, span_at, value_span}
+use Rattle.star_value.specs.Values.{Located, missing, locate, value_of, value_at, value_part, span_at, value_span}
 use Rattle.star_value.specs.Demands.{ValueAnswer, ValuesAnswer, SpanPart}
-use Rattle.star_value.specs.declared.Located.{Located}
 use Rattle.star_value.specs.declared.Value.{Value}
 use Rattle.star_value.specs.declared.Span.{Span}
 use Rattle.star_value.proofs.Locating.{Locates, locates}

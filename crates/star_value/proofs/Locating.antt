@@ -5,33 +5,42 @@ use mathlib.Core.List.{List}
 use Prim.Native.Nat.{ℕ, zero, suc, ◌+◌, ◌-◌, ◌≤◌, ◌<◌}
 use native.Mathlib.Numerals.{add-one}
 use native.Mathlib.Omega.{arith}
-use borrow.Author.Tests.{eq-eqb, ne_eqb}
+use borrow.Author.Tests.{eqb-true, eqb-false, eq-eqb, ne_eqb}
+use Rattle.star_lex.proofs.Cases.{impossible}
+use Rattle.star_find.specs.Lending.{number, found_of}
+use Rattle.star_find.specs.declared.Missing.{Missing}
+use Rattle.star_find.specs.declared.Missing.TheVariants.{NotFound, Outside}
 use lib.Dec.{eqb}
 use Rattle.star_rows.specs.Rows.{word_of}
 use Rattle.star_lex.specs.Answer.{is_some}
 use Rattle.star_find.specs.Find.{Lent, is_row, content_at, found, refused, row_there}
-use Rattle.star_find.specs.declared.Counts.{Counts}
+use Rattle.star_rows.specs.declared.Counts.{Counts}
 use Rattle.star_find.specs.declared.Found.{Found}
-use Rattle.star_value.specs.Values.{first_value, is_link, follow, value_row, missing, located, locate}
-use Rattle.star_value.specs.declared.Located.{Located}
+use Rattle.star_value.specs.Answers.{first_of, valued_of}
+use Rattle.std.proofs.Common.{Some, None, Err}
+use Rattle.star_value.specs.Values.{Located, first_value, is_link, follow, value_row, missing, located, locate, value_of}
 
 -- what one row decides of the first value row of a name row
-module _ (values : List ℕ) (name rows i : ℕ) (h : i < rows) where
-  first-row : first_value values name (rows - i) (i + 1) ≡ first_value values name (suc (rows - (i + 1))) (i + 1)
-  first-row = ap (λ n. first_value values name n (i + 1)) (let e : rows - i ≡ suc (rows - (i + 1)) = omega arith in e)
+module _ (values : List ℕ) (name rows row : ℕ) where
+  first-row : row ≤ rows → first_value values name (rows + 1 - row) row ≡ first_value values name (suc (rows + 1 - (row + 1))) row
+  first-row h = ap (λ n. first_value values name n row) (let e : rows + 1 - row ≡ suc (rows + 1 - (row + 1)) = omega arith in e)
 
-  pub first-here : word_of values 4 (i + 1) 0 ≡ name → first_value values name (rows - i) (i + 1) ≡ i + 1
+  pub first-here : row ≤ rows → word_of values 4 row 0 ≡ name → first_value values name (rows + 1 - row) row ≡ row
   unfolding first_value
-  first-here e = first-row ∙ (rw (eq-eqb (word_of values 4 (i + 1) 0) name e))
+  first-here h e = first-row h ∙ (rw (eq-eqb (word_of values 4 row 0) name e))
 
-  pub first-later : (word_of values 4 (i + 1) 0 ≡ name → ⊥)
-      → first_value values name (rows - i) (i + 1) ≡ first_value values name (rows - (i + 1)) (i + 1 + 1)
+  pub first-later : row ≤ rows → (word_of values 4 row 0 ≡ name → ⊥)
+      → first_value values name (rows + 1 - row) row ≡ first_value values name (rows + 1 - (row + 1)) (row + 1)
   unfolding first_value
-  first-later e = first-row ∙ (rw (ne_eqb (word_of values 4 (i + 1) 0) name e, add-one (i + 1)))
+  first-later h e = first-row h ∙ (rw (ne_eqb (word_of values 4 row 0) name e, add-one row))
 
-pub first-over : (values : List ℕ) (name rows i : ℕ) → rows ≤ i → first_value values name (rows - i) (i + 1) ≡ 0
-unfolding first_value
-first-over values name rows i h = ap (λ n. first_value values name n (i + 1)) (let e : rows - i ≡ 0 = omega arith in e)
+  pub first-over : rows < row → first_value values name (rows + 1 - row) row ≡ 0
+  unfolding first_value
+  first-over h = ap (λ n. first_value values name n row) (let e : rows + 1 - row ≡ 0 = omega arith in e)
+
+  -- a row is none where it is 0
+  pub first-some : 1 ≤ row → first_of row ≡ Some row
+  first-some h = rw (ne_eqb row 0 (λ e. omega (arith, e)))
 
 -- what one link decides, where there are links left, and the row where there are none
 module _ (values : List ℕ) (count name : ℕ) where
@@ -139,3 +148,28 @@ start_word l c _ Locates.outside = refl
 pub located-start : (l : Lent) (c : Counts) (name k : ℕ) (f : Located) → f ≡ locate l c name k
     → cond (is_some (content_at l.file l.tokens c.tokens f.token)) (word_of l.tokens 3 f.token 1) 0 ≡ word_of l.tokens 3 f.token 1
 located-start l c name k f e = start_word l c f (rw e (locates l c name k))
+
+-- a row, or none where it is 0
+pub first-given : (row : ℕ) {n : ℕ} → Some n ≡ first_of row → (n ≡ row) × (row ≡ 0 → ⊥)
+first-given row {n} e = go (eqb row 0) refl
+  where
+    go : (t : Bool) → eqb row 0 ≡ t → (n ≡ row) × (row ≡ 0 → ⊥)
+    go true q = impossible (let z : Some n ≡ None = rw q at e in cc)
+    go false q = (cc (let z : Some n ≡ Some row = rw q at e in z), eqb-false row 0 q)
+
+pub first-none : (row : ℕ) → None ≡ first_of row → row ≡ 0
+first-none row e = go (eqb row 0) refl
+  where
+    go : (t : Bool) → eqb row 0 ≡ t → row ≡ 0
+    go true q = eqb-true row 0 q
+    go false q = impossible (let z : None ≡ Some row = rw q at e in cc)
+
+-- a refusal is passed on
+pub located-refused : (l : Lent) (c : Counts) (m : Missing) → located l c (found_of (Err m)) ≡ missing (number m)
+unfolding located
+located-refused l c NotFound = refl
+located-refused l c Outside = refl
+
+pub value-refused : (l : Lent) (m : Missing) → value_of l (missing (number m)) ≡ valued_of (Err m)
+unfolding value_of missing word_of
+value-refused l m = refl

@@ -21,11 +21,10 @@ use Rattle.star_grammar.proofs.RowsOf.{IsToken, Inside}
 use Rattle.star_lex.proofs.Each.{each_at}
 use Rattle.star_read.specs.Read.{Sizes, Way, read_via}
 use Rattle.star_find.specs.Find.{is_row, content_at, row_there, found, refused}
-use Rattle.star_value.specs.Values.{first_value, value_row, missing, located, locate, value_of, value_at, value_part, span_at, value_span}
+use Rattle.star_value.specs.Values.{Located, first_value, value_row, missing, located, locate, value_of, value_at, value_part, span_at, value_span}
 use Rattle.star_find.specs.Demands.{content_of}
 use Rattle.star_value.specs.Demands.{token_kind, span_of, of_name, numbers_of, Chain}
 use Rattle.star_find.specs.declared.Found.{Found}
-use Rattle.star_value.specs.declared.Located.{Located}
 use Rattle.star_value.proofs.Links.{Links, words-links, first-is, chain-from, value-row-is, value-row-none}
 use Rattle.star_find.proofs.After.{left, counted, counts-fit, row_inside, token-content}
 use Rattle.star_value.proofs.TokenRows.{token-kind, token-span}

@@ -8,7 +8,7 @@ use Rattle.star_grammar.specs.Tables.{Rows, ValueRow}
 use Rattle.star_read.specs.Read.{Sizes, Way, read_via}
 use Rattle.star_find.specs.Find.{Lent}
 use Rattle.star_find.specs.Demands.{lent_after, counts_after, content_of}
-use Rattle.star_find.specs.declared.Counts.{Counts}
+use Rattle.star_rows.specs.declared.Counts.{Counts}
 use Rattle.star_value.specs.Values.{first_value, value_at, value_part, value_span}
 use Rattle.star_value.specs.declared.Value.{Value}
 use Rattle.star_value.specs.declared.Span.{Span}

@@ -5,11 +5,16 @@ use Rattle.star_rows.specs.Rows.{word_of}
 use Rattle.star_lex.specs.Answer.{is_some}
 use Rattle.star_lex.specs.Table.{or_empty}
 use Rattle.star_find.specs.Find.{Lent, content_at, found, refused, row_there}
-use Rattle.star_find.specs.declared.Counts.{Counts}
+use Rattle.star_rows.specs.declared.Counts.{Counts}
 use Rattle.star_find.specs.declared.Found.{Found}
-use Rattle.star_value.specs.declared.Located.{Located}
 use Rattle.star_value.specs.declared.Value.{Value}
 use Rattle.star_value.specs.declared.Span.{Span}
+
+-- a value that is asked for: refusal, packet and token row
+pub record Located : Type 0 where
+  pub refusal : ℕ
+  pub packet : ℕ
+  pub token : ℕ
 
 -- the first value row of a name row among so many rows from this one on; 0 where there is none
 unfoldable pub first_value : (values : List ℕ) → (name left row : ℕ) → ℕ

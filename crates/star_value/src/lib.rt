@@ -3,12 +3,13 @@
 
 ghost use Rattle.std.specs.Prelude.{◌≡◌};
 ghost use Rattle.star_lex.specs.Table.{further};
-ghost use Rattle.star_find.specs.Find.{lent};
+ghost use Rattle.star_find.specs.Lending.{found_of, seen};
 ghost use Rattle.star_value.specs.Values.{first_value, is_link, follow as values_follow, value_row, locate as values_locate, value_at, value_part, value_span};
+ghost use Rattle.star_value.specs.Answers.{first_of, located_of, valued_of};
 
-use star_find::{Counts, Found};
+use star_find::{Lent, Missing};
 
-// What a value is: refusal, kind and packet, both 0 where it is refused.
+// What a value is, through C: refusal, kind and packet, both 0 where it is refused.
 #[repr(C)]
 #[derive(Clone, Copy)]
 pub struct Value {
@@ -25,209 +26,145 @@ pub struct Span {
     pub end: usize,
 }
 
-// A value that is asked for: refusal, packet and token row, both 0 where it is refused.
+// A value that was asked for, by its packet and its token row.
 #[derive(Clone, Copy)]
 pub struct Located {
-    pub refusal: u32,
     pub packet: u32,
     pub token: u32,
 }
 
-// The first value row of a name row among so many rows, or 0.
-fn first_value(values: &[u32], rows: u32, name: u32) -> u32
-    ensures { result ≡ first_value values.now name rows 1 }
-{
-    let mut row: u32 = 0;
-    while row < rows {
-        row += 1;
-        if star_rows::word(values, star_rows::VALUE_WIDTH, row, 0) == name {
-            return row;
+// A value that was asked for, by its kind and its packet.
+#[derive(Clone, Copy)]
+pub struct Valued {
+    pub kind: u32,
+    pub packet: u32,
+}
+
+impl From<Result<Valued, Missing>> for Value {
+    ghost from_gives = { λ answer value. value ≡ valued_of answer };
+
+    fn from(answer: Result<Valued, Missing>) -> Value {
+        match answer {
+            Ok(valued) => Value {
+                refusal: 0,
+                kind: valued.kind,
+                packet: valued.packet,
+            },
+            Err(missing) => Value {
+                refusal: missing.number(),
+                kind: 0,
+                packet: 0,
+            },
         }
     }
-    0
+}
+
+// The first value row of a name row among so many rows.
+fn first_value(values: &[u32], rows: u32, name: u32) -> Option<u32>
+    ensures { result ≡ first_of (first_value values.now name rows 1) }
+{
+    for row in 1..=rows {
+        if star_rows::word(values, star_rows::VALUE_WIDTH, row, 0) == name {
+            return Some(row);
+        }
+    }
+    None
 }
 
 // Whether a link other than 0 leads to a later row within the count, of the same name row.
+#[tactic(auto, unfolding(crate::specs::Values::is_link))]
 fn is_link(values: &[u32], rows: u32, name: u32, row: u32, next: u32) -> bool
     ensures { result ≡ is_link values.now rows name row next }
 {
-    if next <= row {
-        return false;
-    }
-    if rows < next {
-        return false;
-    }
-    star_rows::word(values, star_rows::VALUE_WIDTH, next, 0) == name
+    row < next && next <= rows && star_rows::word(values, star_rows::VALUE_WIDTH, next, 0) == name
 }
 
-// The row that so many links lead to from a row on: 13 at a link of 0, 14 at one that leads elsewhere.
-fn follow(values: &[u32], rows: u32, name: u32, links: u32, row: u32) -> Found
-    ensures { result ≡ values_follow values.now rows name links row }
+// The row that so many links lead to from a row on: there is none at a link of 0, and one that leads elsewhere is outside.
+fn follow(values: &[u32], rows: u32, name: u32, links: u32, row: u32) -> Result<u32, Missing>
+    ensures { found_of result ≡ values_follow values.now rows name links row }
 {
-    let mut left = links;
     let mut at = row;
-    while 0 < left {
+    for _ in 0..links {
         let next = star_rows::word(values, star_rows::VALUE_WIDTH, at, 3);
         if next == 0 {
-            return Found {
-                refusal: 13,
-                row: 0,
-            };
+            return Err(Missing::NotFound);
         }
         if !is_link(values, rows, name, at, next) {
-            return Found {
-                refusal: 14,
-                row: 0,
-            };
+            return Err(Missing::Outside);
         }
         at = next;
-        left -= 1;
     }
-    Found {
-        refusal: 0,
-        row: at,
-    }
+    Ok(at)
 }
 
 // The k-th value row of a name row, k from 1: the first, and k - 1 links from there.
-fn value_row(values: &[u32], rows: u32, name: u32, k: u32) -> Found
-    ensures { result ≡ value_row values.now rows name k }
+fn value_row(values: &[u32], rows: u32, name: u32, k: u32) -> Result<u32, Missing>
+    ensures { found_of result ≡ value_row values.now rows name k }
 {
     if k == 0 {
-        return Found {
-            refusal: 13,
-            row: 0,
-        };
-    }
-    let first = first_value(values, rows, name);
-    if first == 0 {
-        return Found {
-            refusal: 13,
-            row: 0,
-        };
+        return Err(Missing::NotFound);
     }
     let links = k - 1;
-    follow(values, rows, name, links, first)
+    match first_value(values, rows, name) {
+        Some(first) => follow(values, rows, name, links, first),
+        None => Err(Missing::NotFound),
+    }
 }
 
-// The value that is asked for, by its packet and its token row, or its refusal.
-pub fn locate(
-    file: &[u8],
-    tokens: &[u32],
-    sets: &[u32],
-    names: &[u32],
-    packets: &[u32],
-    values: &[u32],
-    counts: Counts,
-    name: u32,
-    k: u32,
-) -> Located
-    ensures { result ≡ values_locate (lent file.now tokens.now sets.now names.now packets.now
-        values.now) counts name k }
+// The value that is asked for, by its packet and its token row.
+pub fn locate(lent: &Lent, name: u32, k: u32) -> Result<Located, Missing>
+    ensures { located_of result ≡ values_locate (seen lent.now) lent.now.counts name k }
 {
-    if !star_find::row_there(
-        file,
-        tokens,
-        sets,
-        names,
-        packets,
-        values,
-        counts,
-        counts.names,
-        name,
-    ) {
-        return Located {
-            refusal: 14,
-            packet: 0,
-            token: 0,
-        };
+    if !lent.row_there(lent.counts.names, name) {
+        return Err(Missing::Outside);
     }
-    let found = value_row(values, counts.values, name, k);
-    if found.refusal != 0 {
-        return Located {
-            refusal: found.refusal,
-            packet: 0,
-            token: 0,
-        };
+    let row = value_row(lent.values, lent.counts.values, name, k)?;
+    let token = star_rows::word(lent.values, star_rows::VALUE_WIDTH, row, 2);
+    if !lent.contents().has_part(token) {
+        return Err(Missing::Outside);
     }
-    let token = star_rows::word(values, star_rows::VALUE_WIDTH, found.row, 2);
-    if star_find::has_part(file, tokens, counts.tokens, token) {
-        Located {
-            refusal: 0,
-            packet: star_rows::word(values, star_rows::VALUE_WIDTH, found.row, 1),
-            token,
-        }
-    } else {
-        Located {
-            refusal: 14,
-            packet: 0,
-            token: 0,
-        }
-    }
+    Ok(Located {
+        packet: star_rows::word(lent.values, star_rows::VALUE_WIDTH, row, 1),
+        token,
+    })
 }
 
 // Kind and packet of the k-th value of a name row, k from 1.
-pub fn value_at(
-    file: &[u8],
-    tokens: &[u32],
-    sets: &[u32],
-    names: &[u32],
-    packets: &[u32],
-    values: &[u32],
-    counts: Counts,
-    name: u32,
-    k: u32,
-) -> Value
-    ensures { result ≡ value_at (lent file.now tokens.now sets.now names.now packets.now
-        values.now) counts name k }
+pub fn value_at(lent: &Lent, name: u32, k: u32) -> Result<Valued, Missing>
+    ensures { valued_of result ≡ value_at (seen lent.now) lent.now.counts name k }
 {
-    let found = locate(file, tokens, sets, names, packets, values, counts, name, k);
-    Value {
-        refusal: found.refusal,
-        kind: star_rows::word(tokens, star_rows::TOKEN_WIDTH, found.token, 0),
+    let found = locate(lent, name, k)?;
+    Ok(Valued {
+        kind: star_rows::word(lent.tokens, star_rows::TOKEN_WIDTH, found.token, 0),
         packet: found.packet,
+    })
+}
+
+// The token row of a value that is asked for; one that is refused has row 0, which has no words and no content.
+fn token_row(lent: &Lent, name: u32, k: u32) -> u32
+    ensures { result ≡ (values_locate (seen lent.now) lent.now.counts name k).token }
+{
+    match locate(lent, name, k) {
+        Ok(found) => found.token,
+        Err(_) => 0,
     }
 }
 
 // The k-th value of a name row, k from 1, as that part of the file; an empty part where it is refused.
-pub fn value_part<'a, 'b>(
-    file: &'a [u8],
-    tokens: &'b [u32],
-    sets: &'b [u32],
-    names: &'b [u32],
-    packets: &'b [u32],
-    values: &'b [u32],
-    counts: Counts,
-    name: u32,
-    k: u32,
-) -> &'a [u8]
-    ensures result_value { result.now ≡ value_part (lent file.now tokens.now sets.now names.now packets.now
-        values.now) counts name k }
-    ensures ref_ptr_value { result.ref_ptr ≡ further file.entry.ref_ptr (value_span (lent file.now tokens.now sets.now names.now
-        packets.now values.now) counts name k).start }
+pub fn value_part<'a>(lent: &Lent<'a, '_>, name: u32, k: u32) -> &'a [u8]
+    ensures result_value { result.now ≡ value_part (seen lent.now) lent.now.counts name k }
+    ensures ref_ptr_value { result.ref_ptr ≡ further lent.now.file.ref_ptr (value_span (seen lent.now) lent.now.counts name k).start }
 {
-    let found = locate(file, tokens, sets, names, packets, values, counts, name, k);
-    star_find::part(file, tokens, counts.tokens, found.token)
+    lent.contents().part(token_row(lent, name, k))
 }
 
 // Where the k-th value of a name row, k from 1, lies in the file, for those who cannot be handed a part of it.
-pub fn value_span(
-    file: &[u8],
-    tokens: &[u32],
-    sets: &[u32],
-    names: &[u32],
-    packets: &[u32],
-    values: &[u32],
-    counts: Counts,
-    name: u32,
-    k: u32,
-) -> Span
-    ensures { result ≡ value_span (lent file.now tokens.now sets.now names.now packets.now
-        values.now) counts name k }
+pub fn value_span(lent: &Lent, name: u32, k: u32) -> Span
+    ensures { result ≡ value_span (seen lent.now) lent.now.counts name k }
 {
-    let found = locate(file, tokens, sets, names, packets, values, counts, name, k);
+    let token = token_row(lent, name, k);
     Span {
-        start: star_rows::word(tokens, star_rows::TOKEN_WIDTH, found.token, 1) as usize,
-        end: star_rows::word(tokens, star_rows::TOKEN_WIDTH, found.token, 2) as usize,
+        start: star_rows::word(lent.tokens, star_rows::TOKEN_WIDTH, token, 1) as usize,
+        end: star_rows::word(lent.tokens, star_rows::TOKEN_WIDTH, token, 2) as usize,
     }
 }

@@ -9,12 +9,10 @@ use Rattle.star_find.specs.Demands.{lent_after, counts_after, content_of}
 use Rattle.star_value.specs.Demands.{of_name, token_kind}
 use Rattle.star_number.specs.Taken.{number_in}
 use Rattle.star_number.specs.Forms.{zero_float, form, form_of}
-use Rattle.star_value_number.specs.Forms.{value_number, value_form, value_form_of}
-use Rattle.star_find.specs.declared.Counts.{Counts}
+use Rattle.star_value_number.specs.Forms.{ValueNumber, Refused, Given, value_number, value_form, value_form_of}
+use Rattle.star_rows.specs.declared.Counts.{Counts}
 use Rattle.star_number.specs.declared.Number.{Number}
 use Rattle.star_value_number.specs.declared.ValueForm.{ValueForm}
-use Rattle.star_value_number.specs.declared.ValueNumber.{ValueNumber}
-use Rattle.star_value_number.specs.declared.ValueNumber.TheVariants.{Refused, Given}
 
 -- after reading, in either layout or as an old file: the numbers of a name row, k = 1, 2, .., are those of its values in file order; past the last there is none
 abbrev pub NumbersInOrder : Type 0

@@ -2,20 +2,14 @@
 #![tactic(auto)]
 
 ghost use Rattle.std.specs.Prelude.{◌≡◌};
-ghost use Rattle.star_find.specs.Find.{lent};
+ghost use Rattle.star_find.specs.Lending.{seen};
 ghost use Rattle.star_value_number.specs.Forms.{value_number, value_form_of};
+ghost use Rattle.star_value_number.specs.Answers.{number_answer};
 
-use star_find::Counts;
-use star_number::Number;
+use star_find::{Lent, Missing};
+use star_number::{Form, Number};
 
-// What the k-th value of a name row is: a refusal, or a number.
-#[derive(Clone, Copy)]
-pub enum ValueNumber {
-    Refused(u32),
-    Given(Number),
-}
-
-// The form of that number, preceded by the refusal; a refused one has form 0.
+// A value's number as its form through C, preceded by the refusal; a refused one has form 0.
 #[repr(C)]
 #[derive(Clone, Copy)]
 pub struct ValueForm {
@@ -25,52 +19,36 @@ pub struct ValueForm {
     pub uncertainty: f64,
 }
 
-// What the k-th value of a name row is, k from 1, with the refusals of `value_at`.
-pub fn value_number(
-    file: &[u8],
-    tokens: &[u32],
-    sets: &[u32],
-    names: &[u32],
-    packets: &[u32],
-    values: &[u32],
-    counts: Counts,
-    name: u32,
-    k: u32,
-) -> ValueNumber
-    ensures { result ≡ value_number (lent file.now tokens.now sets.now names.now packets.now
-        values.now) counts name k }
-{
-    let found = star_value::locate(file, tokens, sets, names, packets, values, counts, name, k);
-    let refusal = found.refusal;
-    if refusal != 0 {
-        return ValueNumber::Refused(refusal);
-    }
-    let kind = star_rows::word(tokens, star_rows::TOKEN_WIDTH, found.token, 0);
-    ValueNumber::Given(star_number::number_of(
-        kind,
-        star_find::part(file, tokens, counts.tokens, found.token),
-    ))
-}
+#[tactic(auto, unfolding(crate::specs::Forms::value_form_of))]
+impl From<Result<Number, Missing>> for ValueForm {
+    ghost from_gives = { λ answer form. form ≡ value_form_of (number_answer answer) };
 
-// A value's number as its form.
-pub fn value_form(number: ValueNumber) -> ValueForm
-    ensures { result ≡ value_form_of number }
-{
-    match number {
-        ValueNumber::Refused(refusal) => ValueForm {
-            refusal,
-            form: 0,
-            value: 0.0,
-            uncertainty: 0.0,
-        },
-        ValueNumber::Given(given) => {
-            let f = star_number::form_of(given);
-            ValueForm {
-                refusal: 0,
-                form: f.form,
-                value: f.value,
-                uncertainty: f.uncertainty,
+    fn from(answer: Result<Number, Missing>) -> ValueForm {
+        match answer {
+            Ok(number) => {
+                let f = Form::from(number);
+                ValueForm {
+                    refusal: 0,
+                    form: f.form,
+                    value: f.value,
+                    uncertainty: f.uncertainty,
+                }
             }
+            Err(missing) => ValueForm {
+                refusal: missing.number(),
+                form: 0,
+                value: 0.0,
+                uncertainty: 0.0,
+            },
         }
     }
+}
+
+// What the k-th value of a name row is as a number, k from 1.
+pub fn value_number(lent: &Lent, name: u32, k: u32) -> Result<Number, Missing>
+    ensures { number_answer result ≡ value_number (seen lent.now) lent.now.counts name k }
+{
+    let found = star_value::locate(lent, name, k)?;
+    let kind = star_rows::word(lent.tokens, star_rows::TOKEN_WIDTH, found.token, 0);
+    Ok(star_number::number_of(kind, lent.contents().part(found.token)))
 }

@@ -9,6 +9,9 @@ use native.Mathlib.Omega.{arith}
 use borrow.Author.Tests.{leb-true, le-leb, lt-leb}
 use lib.Dec.{leb}
 use lib.ListN.{length, replicate}
+use Rattle.std.specs.Prelude.{Result, Ok, Err, is_err}
+use Rattle.star_text.specs.declared.refusal.Refusal.{Refusal}
+use Rattle.star_text.proofs.Refusals.{number-some}
 use Rattle.star_text.specs.Outcome.{refused, accepted, then, need}
 use Rattle.star_text.proofs.Outcome.{accepted-same, need-accepted, need-refused, then-accepted, then-refused, NotZero}
 use Rattle.star_text.specs.Bytes.{most_bytes}
@@ -28,8 +31,9 @@ use Rattle.star_read.proofs.Accepted.{number_in, answer-rows, answer-refused, to
 use Rattle.star_plain.specs.Kept.{kept_row, first_tokens, rows_taken, plain_in, room_with}
 use Rattle.star_plain.proofs.Held.{held_plain}
 use Rattle.star_write.specs.Write.{Writing, written, plain_fits, write_of, write_in, drop_of, writing_of}
-use Rattle.star_write.specs.Answer.{bytes_of, output_of, write_answer, Leaving, Writes, WritesIn}
+use Rattle.star_write.specs.Answer.{bytes_of, output_of, write_answer, written_of, Leaving, Writes, WritesIn}
 use Rattle.star_write.specs.declared.Written.{Written}
+use Rattle.star_write.specs.declared.PlainForm.{PlainForm}
 
 -- what is written after reading: the plain form of a row that is made of the tokens
 abbrev pub writing_by : ReadOutcome → (row : List Token → List Token) → (room : ℕ) → Writing
@@ -267,10 +271,15 @@ module _ {o : ReadOutcome} {w : Writing} {plain : List ℕ} {ps : List Placed} {
   unfolding reading_of
   tables-by {words} {t} k = subst (λ u. Leaves u words t) (reads ∙ sym (ap reading_of outcome)) k
 
--- tables of the same lengths have the same sizes, and what is left in either is the same
-pub same-sizes : (before mid : Tables) → length mid.tokens ≡ length before.tokens → length mid.sets ≡ length before.sets → length mid.names ≡ length before.names
-    → length mid.packets ≡ length before.packets → length mid.values ≡ length before.values → sizes before ≡ sizes mid
-same-sizes before mid a b c d e = sym (rw (a, b, c, d, e))
+-- an answer is a refusal where its number is not 0
+pub told-err : (r : Result PlainForm Refusal) → is_err r ≡ true → (written_of r).refusal ≡ 0 → ⊥
+told-err (Ok f) e z = impossible cc
+told-err (Err d) e z = number-some d.reason z
 
+pub told-ok : (r : Result PlainForm Refusal) → is_err r ≡ false → (written_of r).refusal ≡ 0
+told-ok (Ok f) e = refl
+told-ok (Err d) e = impossible cc
+
+-- what is left in tables of the same sizes is the same
 pub leaving-at : {w : Writing} {before mid after : Tables} {room out : List ℕ} {r : Written} → sizes before ≡ sizes mid → Leaving w mid after room out r → Leaving w before after room out r
 leaving-at {w} {after = after} e l = record { answer = l.answer; leaves = subst (λ s. Leaves (reading_of w) s after) (sym e) l.leaves; output = l.output }

@@ -5,15 +5,23 @@ ghost use Rattle.std.specs.Prelude.{◌≡◌, Bool, List, ℕ, length};
 ghost use Rattle.star_lex.specs.Plain.{plain_of};
 ghost use Rattle.star_lex.specs.Holds.{Holds, file_tokens};
 ghost use Rattle.star_read.specs.Read.{Sizes, Way, read_via};
-ghost use Rattle.star_text.specs.Outcome.{refused};
-ghost use Rattle.star_read.specs.Answer.{read_answer, tables, sizes, Leaves};
+ghost use Rattle.star_rows.specs.Tables.{Same};
+ghost use Rattle.star_read.specs.Answer.{read_answer, held, sizes, answer_of, Leaves};
 ghost use Rattle.star_plain.specs.Kept.{kept_row};
 ghost use Rattle.star_write.specs.Write.{writing_of};
-ghost use Rattle.star_write.specs.Answer.{write_answer, Leaving, Writes, WritesIn, DropsStops};
+ghost use Rattle.star_write.specs.Answer.{write_answer, written_of, Leaving, Writes, WritesIn, DropsStops};
 
-use star_read::Answer;
+use star_rows::{Counts, Tables};
+use star_text::refusal::{Reason, Refusal};
 
-// What writing answers: refusal and place, both 0 when written, the length of the plain form, and the number of rows of each table.
+// A plain form that was written: its length, and the number of rows of each table of the file.
+#[derive(Clone, Copy)]
+pub struct PlainForm {
+    pub length: u32,
+    pub counts: Counts,
+}
+
+// What writing answers through C: refusal and place, both 0 when written, the length of the plain form, and the number of rows of each table.
 #[repr(C)]
 #[derive(Clone, Copy)]
 pub struct Written {
@@ -27,136 +35,128 @@ pub struct Written {
     pub values: u32,
 }
 
-// A refusal: length and counts are 0.
-fn refusing(refusal: u32, place: u32) -> Written
-    ensures { result ≡ write_answer (refused refusal place) }
-{
-    Written {
-        refusal,
-        place,
-        length: 0,
-        tokens: 0,
-        sets: 0,
-        names: 0,
-        packets: 0,
-        values: 0,
+impl From<Result<PlainForm, Refusal>> for Written {
+    ghost from_gives = { λ r w. w ≡ written_of r };
+
+    fn from(written: Result<PlainForm, Refusal>) -> Written {
+        match written {
+            Ok(form) => Written {
+                refusal: 0,
+                place: 0,
+                length: form.length,
+                tokens: form.counts.tokens,
+                sets: form.counts.sets,
+                names: form.counts.names,
+                packets: form.counts.packets,
+                values: form.counts.values,
+            },
+            Err(refusal) => Written {
+                refusal: refusal.reason.number(),
+                place: refusal.place,
+                length: 0,
+                tokens: 0,
+                sets: 0,
+                names: 0,
+                packets: 0,
+                values: 0,
+            },
+        }
     }
+}
+
+// The number of tokens that were read, 0 on a refusal.
+fn token_count(read: Result<Counts, Refusal>) -> usize
+    ensures { result ≡ (answer_of read).tokens }
+{
+    match read {
+        Ok(counts) => counts.tokens as usize,
+        Err(_) => 0,
+    }
+}
+
+// A refusal with its place.
+fn refusing(reason: Reason, place: u32) -> Refusal
+    ensures { result ≡ record { reason = reason; place = place } }
+{
+    Refusal { reason, place }
 }
 
 // What writing answers after reading has answered, where the plain form has that size: refusal 1 if it is too long, then 7 if the output is too short.
-fn answer(reading: Answer, size: usize, room: usize) -> Written
-    ensures { (way : Way) (file : List ℕ) (words : Sizes) (without : Bool) → reading ≡ read_answer (read_via way file words)
-        → (reading.refusal ≡ 0 → size ≡ length (plain_of (kept_row without (file_tokens file))))
-        → result ≡ write_answer (writing_of (read_via way file words) without room) }
+fn answer(read: Result<Counts, Refusal>, size: usize, room: usize) -> Result<PlainForm, Refusal>
+    ensures { (way : Way) (file : List ℕ) (words : Sizes) (without : Bool) → answer_of read ≡ read_answer (read_via way file words)
+        → ((answer_of read).refusal ≡ 0 → size ≡ length (plain_of (kept_row without (file_tokens file))))
+        → written_of result ≡ write_answer (writing_of (read_via way file words) without room) }
 {
-    if reading.refusal != 0 {
-        return refusing(reading.refusal, reading.place);
-    }
+    let counts = read?;
     if size > star_text::MOST_BYTES {
-        return refusing(1, 0);
+        return Err(refusing(Reason::TooLong, 0));
     }
     if size > room {
-        return refusing(7, 6);
+        return Err(refusing(Reason::NoRoom, 6));
     }
-    Written {
-        refusal: 0,
-        place: 0,
+    Ok(PlainForm {
         length: size as u32,
-        tokens: reading.tokens,
-        sets: reading.sets,
-        names: reading.names,
-        packets: reading.packets,
-        values: reading.values,
-    }
+        counts,
+    })
 }
 
-// Writes the plain form, with header stops or without, of a file that was read into the five tables. On a refusal length, counts, tables and output are all 0.
+// Writes the plain form, with header stops or without, of a file that was read into the five tables. On a refusal tables and output are all 0.
 fn finish(
     file: &[u8],
-    reading: Answer,
-    tokens: &mut [u32],
-    sets: &mut [u32],
-    names: &mut [u32],
-    packets: &mut [u32],
-    values: &mut [u32],
+    read: Result<Counts, Refusal>,
+    tables: &mut Tables,
     out: &mut [u8],
     without: bool,
-) -> Written
-    requires { reading.refusal ≡ 0 → Holds file.now tokens.old reading.tokens }
-    ensures { (way : Way) (words : Sizes) → reading ≡ read_answer (read_via way file.now words)
-        → words ≡ sizes (tables tokens.old sets.old names.old packets.old values.old)
-        → Leaves (read_via way file.now words) words (tables tokens.old sets.old names.old packets.old values.old)
+) -> Result<PlainForm, Refusal>
+    requires { (answer_of read).refusal ≡ 0 → Holds file.now tables.old.tokens.now (answer_of read).tokens }
+    ensures writes { (way : Way) (words : Sizes) → answer_of read ≡ read_answer (read_via way file.now words)
+        → words ≡ sizes (held tables.old)
+        → Leaves (read_via way file.now words) words (held tables.old)
         → Leaving (writing_of (read_via way file.now words) without (length out.old))
-        (tables tokens.old sets.old names.old packets.old values.old)
-        (tables tokens.new sets.new names.new packets.new values.new)
-        out.old out.new result }
+        (held tables.old) (held tables.new) out.old out.new (written_of result) }
+    ensures same { Same tables.old tables.new }
 {
-    let size = star_plain::put_plain(file, tokens, reading.tokens as usize, out, without);
-    let written = answer(reading, size, out.len());
-    if written.refusal != 0 {
-        star_read::clear_tables(tokens, sets, names, packets, values);
+    let tokens = &mut *tables.tokens;
+    let size = star_plain::put_plain(file, tokens, token_count(read), out, without);
+    let written = answer(read, size, out.len());
+    if written.is_err() {
+        star_read::clear_tables(tables);
     }
     written
 }
 
 // Reads a file of a layout into the five tables and writes its plain form in that layout: 0 is today's, 1 that of 1991, and any other number is refused before all else. On a refusal
-// length, counts, tables and output are all 0.
+// tables and output are all 0.
 pub fn write_layout(
     file: &[u8],
     layout: u32,
-    tokens: &mut [u32],
-    sets: &mut [u32],
-    names: &mut [u32],
-    packets: &mut [u32],
-    values: &mut [u32],
+    tables: &mut Tables,
     out: &mut [u8],
-) -> Written
-    ensures { WritesIn layout file.now
-        (tables tokens.old sets.old names.old packets.old values.old)
-        (tables tokens.new sets.new names.new packets.new values.new)
-        out.old out.new result }
+) -> Result<PlainForm, Refusal>
+    ensures writes { WritesIn layout file.now (held tables.old) (held tables.new) out.old out.new (written_of result) }
+    ensures same { Same tables.old tables.new }
 {
-    let reading = star_read::read_layout(file, layout, tokens, sets, names, packets, values);
-    finish(
-        file, reading, tokens, sets, names, packets, values, out, false,
-    )
+    let read = star_read::read_layout(file, layout, tables);
+    finish(file, read, tables, out, false)
 }
 
-// Reads an old file, whose loops may have header stops, into the five tables, and writes its plain form without the header stops. On a refusal length, counts, tables and output are all 0.
+// Reads an old file, whose loops may have header stops, into the five tables, and writes its plain form without the header stops. On a refusal tables and output are all 0.
 pub fn drop_header_stops(
     file: &[u8],
-    tokens: &mut [u32],
-    sets: &mut [u32],
-    names: &mut [u32],
-    packets: &mut [u32],
-    values: &mut [u32],
+    tables: &mut Tables,
     out: &mut [u8],
-) -> Written
-    ensures { DropsStops file.now
-        (tables tokens.old sets.old names.old packets.old values.old)
-        (tables tokens.new sets.new names.new packets.new values.new)
-        out.old out.new result }
+) -> Result<PlainForm, Refusal>
+    ensures writes { DropsStops file.now (held tables.old) (held tables.new) out.old out.new (written_of result) }
+    ensures same { Same tables.old tables.new }
 {
-    let reading = star_read::read_old(file, tokens, sets, names, packets, values);
-    finish(
-        file, reading, tokens, sets, names, packets, values, out, true,
-    )
+    let read = star_read::read_old(file, tables);
+    finish(file, read, tables, out, true)
 }
 
-// Reads a file of today's layout into the five tables and writes its plain form. On a refusal length, counts, tables and output are all 0.
-pub fn write(
-    file: &[u8],
-    tokens: &mut [u32],
-    sets: &mut [u32],
-    names: &mut [u32],
-    packets: &mut [u32],
-    values: &mut [u32],
-    out: &mut [u8],
-) -> Written
-    ensures { Writes file.now
-        (tables tokens.old sets.old names.old packets.old values.old)
-        (tables tokens.new sets.new names.new packets.new values.new)
-        out.old out.new result }
+// Reads a file of today's layout into the five tables and writes its plain form. On a refusal tables and output are all 0.
+pub fn write(file: &[u8], tables: &mut Tables, out: &mut [u8]) -> Result<PlainForm, Refusal>
+    ensures writes { Writes file.now (held tables.old) (held tables.new) out.old out.new (written_of result) }
+    ensures same { Same tables.old tables.new }
 {
-    write_layout(file, 0, tokens, sets, names, packets, values, out)
+    write_layout(file, 0, tables, out)
 }

@@ -4,4 +4,4 @@ use Rattle.star_number.specs.Forms.{form_of}
 use Rattle.star.proofs.star_number_of.Goals as goal
 
 pub returns : goal.returns
-returns c = c.form_of.ensures ∙ ap form_of c.number_of.ensures
+returns c = c.from.ensures ∙ ap form_of c.number_of.ensures

@@ -3,60 +3,58 @@ use mathlib.Core.Path.{refl, sym, ◌∙◌, ap}
 use Prim.Native.Nat.{◌≤◌, ◌<◌}
 use native.Mathlib.Omega.{arith}
 use lib.ListN.{length, replicate, length-replicate}
-use Rattle.star_rows.proofs.Clear.{cleared-whole}
-use Rattle.star_read.specs.Answer.{read_answer, tables, sizes, words}
+use Rattle.std.specs.Prelude.{Ok, Err}
+use Rattle.std.proofs.lemmas.Result.{err_from_is_err_and}
+use Rattle.star_text.proofs.Refusals.{number-some}
+use Rattle.star_read.specs.Answer.{read_answer, held, sizes, answer_of}
+use Rattle.star_read.proofs.Lent.{same-sizes}
 use Rattle.star_slots.specs.Inner.{table_home}
 use Rattle.star_index.proofs.Kept.{leaves_at}
 use Rattle.star_build.specs.Build.{filled}
 use Rattle.star_build.proofs.Kept.{build-few-reads, build-few-slots, build-reads, build-slots, build-unread-reads, build-unread-slots}
 use Rattle.star_build.proofs.build.Goals as goal
 
-pub returns-then-reading-ne0 : goal.returns-then-reading-ne0
-returns-then-reading-ne0 c =
+pub returns-in_err-counts-clause-builds : goal.returns-in_err-counts-clause-builds
+returns-in_err-counts-clause-builds c =
+    let p = err_from_is_err_and c.from_residual.result c.from_residual.ensures.1 in
+    let e = c.in_err-counts.field-0.0 in
+    let read = c.in_err-counts.ensures.reads in
+    let lent = sizes (held c.args.tables.now) in
     let slots = length c.args.slots.now in
-    let o = build-unread-reads _ ((let a = c.args in
-    sizes (tables a.tokens.now a.sets.now a.names.now a.packets.now a.values.now))) c.read-reading.result c.read-reading.ensures.answer c.if-reading-ne0.true slots in
+    let o = build-unread-reads c.args.file.now lent (answer_of (Err e)) read.answer (number-some e.reason) slots in
+    rw (p.1, p.2) (record {
+      gives = record { answer = read.answer ∙ sym (ap read_answer o); leaves = leaves_at o refl read.leaves };
+      leaves = c.fill.ensures.after (λ y h. h) ∙ build-unread-slots c.args.file.now lent (answer_of (Err e)) read.answer (number-some e.reason) slots;
+    })
+
+pub returns-then-slots-counts-clause-builds : goal.returns-then-slots-counts-clause-builds
+returns-then-slots-counts-clause-builds c =
+    let counts = c.in_ok-counts.counts in
+    let read = c.in_ok-counts.ensures.reads in
+    let lent = sizes (held c.args.tables.now) in
+    let slots = length c.args.slots.now in
+    let few : slots ≤ counts.names = omega (arith, c.if-slots-counts.true, c.fill.auto.self) in
+    let o = build-few-reads c.args.file.now lent (answer_of (Ok counts)) read.answer _ read.leaves refl slots few in
     record {
-      gives = record { answer = c.read-reading.ensures.answer ∙ sym (ap read_answer o); leaves = leaves_at o refl c.read-reading.ensures.leaves };
-      leaves = c.clear_from.ensures ∙ cleared-whole _ ∙ build-unread-slots _ ((let a = c.args in
-          sizes (tables a.tokens.now a.sets.now a.names.now a.packets.now a.values.now))) c.read-reading.result c.read-reading.ensures.answer c.if-reading-ne0.true slots;
+      gives = record { answer = c.refuse.ensures.gives.answer ∙ sym (ap read_answer o); leaves = leaves_at o (same-sizes _ _ c.in_ok-counts.ensures.same) c.refuse.ensures.gives.leaves };
+      leaves = c.fill.ensures.after (λ y h. h) ∙ build-few-slots c.args.file.now lent (answer_of (Ok counts)) read.answer _ read.leaves refl slots few;
     }
 
-pub returns-then-slots-reading : goal.returns-then-slots-reading
-returns-then-slots-reading c =
-    let refusing = c.refuse in
+pub returns-clause-builds : goal.returns-clause-builds
+returns-clause-builds c =
+    let file = c.args.file.now in
+    let counts = c.in_ok-counts.counts in
+    let read = c.in_ok-counts.ensures.reads in
+    let lent = sizes (held c.args.tables.now) in
     let slots = length c.args.slots.now in
-    let few : slots ≤ c.read-reading.result.names = omega (arith, c.if-slots-reading.true, c.clear_from.auto.table) in
-    let l = c.read-reading.ensures.leaves in
-    let z = c.if-reading-ne0.false in
-    let o = build-few-reads _ ((let a = c.args in
-    sizes (tables a.tokens.now a.sets.now a.names.now a.packets.now a.values.now))) c.read-reading.result c.read-reading.ensures.answer _ l z slots few in
-    let kept = c.read-reading.auto in
+    let more : counts.names < slots = omega (arith, c.if-slots-counts.false, c.fill.auto.self) in
+    let o = build-reads file lent (answer_of (Ok counts)) read.answer _ read.leaves refl slots more in
+    let zero = c.fill.ensures.after (λ y h. h) in
+    let home = table_home file c.read.new.tables.tokens.now counts.tokens c.read.new.tables.names.now in
     record {
-      gives = record {
-        answer = refusing.ensures.answer ∙ sym (ap read_answer o);
-        leaves = leaves_at o (λ j. words (kept.tokens j) (kept.sets j) (kept.names j) (kept.packets j) (kept.values j)) refusing.ensures.leaves;
-      };
-      leaves = c.clear_from.ensures ∙ cleared-whole _ ∙ build-few-slots _ ((let a = c.args in
-          sizes (tables a.tokens.now a.sets.now a.names.now a.packets.now a.values.now))) c.read-reading.result c.read-reading.ensures.answer _ l z slots few;
-    }
-
-pub returns : goal.returns
-returns c =
-    let a = c.args in
-    let slots = length a.slots.now in
-    let more : c.read-reading.result.names < slots = omega (arith, c.if-slots-reading.false, c.clear_from.auto.table) in
-    let l = c.read-reading.ensures.leaves in
-    let z = c.if-reading-ne0.false in
-    let o = build-reads _ ((let a = c.args in
-    sizes (tables a.tokens.now a.sets.now a.names.now a.packets.now a.values.now))) c.read-reading.result c.read-reading.ensures.answer _ l z slots more in
-    let zero = c.clear_from.ensures ∙ cleared-whole a.slots.now in
-    let home = table_home a.file.now c.read-reading.new.tokens c.read-reading.result.tokens c.read-reading.new.names in
-    record {
-      gives = record { answer = c.read-reading.ensures.answer ∙ sym (ap read_answer o); leaves = leaves_at o refl l };
-      leaves = c.fill.ensures
-          ∙ ap (λ s. filled (home (length s)) s c.read-reading.result.names) zero
-          ∙ ap (λ n. filled (home n) (replicate slots 0) c.read-reading.result.names) (length-replicate slots 0)
-          ∙ build-slots _ ((let a = c.args in
-          sizes (tables a.tokens.now a.sets.now a.names.now a.packets.now a.values.now))) c.read-reading.result c.read-reading.ensures.answer _ l z slots more;
+      gives = record { answer = read.answer ∙ sym (ap read_answer o); leaves = leaves_at o refl read.leaves };
+      leaves = c.fill-2.ensures
+          ∙ ap (λ s. filled (home (length s)) s counts.names) zero
+          ∙ ap (λ n. filled (home n) (replicate slots 0) counts.names) (length-replicate slots 0)
+          ∙ build-slots file lent (answer_of (Ok counts)) read.answer _ read.leaves refl slots more;
     }

@@ -12,42 +12,21 @@ use Rattle.star_check.proofs.Fitting.{fit_next, fit-end}
 use Rattle.star_check.proofs.all_fit.Goals.{After-fits_old}
 use Rattle.star_check.proofs.all_fit.Goals as goal
 
-pub loop-n-init : goal.loop-n-init
-loop-n-init c = (omega arith, refl)
-
-pub overflow_mul-kind : goal.overflow_mul-kind
-overflow_mul-kind c = omega arith
-
-pub offset_bounds-tokens-n : goal.offset_bounds-tokens-n
-offset_bounds-tokens-n c = omega arith
-
-pub bounds-tokens-n : goal.bounds-tokens-n
-bounds-tokens-n c = omega arith
-
-pub fits_old-requires : goal.fits_old-requires
-fits_old-requires c = tt
-
 -- the turn's token decides, or those after it do
 turn : (c : After-fits_old)
     → all_fit old_bench.longest (file_tokens c.args.file.now)
     ≡ (c.fits_old.result && all_fit old_bench.longest (drop (c.loop-n.n + 1) (file_tokens c.args.file.now)))
 turn c =
     let n = c.loop-n.n in
-    sym c.loop-n.invariant.1
+    sym c.loop-n.invariant
     ∙ fit_next old_bench.longest _ _ _ c.requires n (omega arith)
     ∙ ap (λ b. b && all_fit old_bench.longest (drop (n + 1) (file_tokens c.args.file.now))) (sym c.fits_old.ensures)
 
 pub returns-then-not-fits_old : goal.returns-then-not-fits_old
 returns-then-not-fits_old c = sym (turn (goal.at.returns-then-not-fits_old c).After-fits_old ∙ rw (not-true c.fits_old.result c.if-not-fits_old.true-raw))
 
-pub overflow_add-n : goal.overflow_add-n
-overflow_add-n c = omega arith
-
-pub loop-n-smaller : goal.loop-n-smaller
-loop-n-smaller c = omega arith
-
 pub loop-n-preserved : goal.loop-n-preserved
-loop-n-preserved c = (omega arith, sym (turn (goal.at.loop-n-preserved c).After-fits_old ∙ rw (not-false c.fits_old.result c.if-not-fits_old.false-raw)))
+loop-n-preserved c = sym (turn (goal.at.loop-n-preserved c).After-fits_old ∙ rw (not-false c.fits_old.result c.if-not-fits_old.false-raw))
 
 pub returns : goal.returns
-returns c = sym (fit-end _ _ _ _ c.requires c.loop-n.n (omega arith)) ∙ c.loop-n.invariant.1
+returns c = sym (fit-end _ _ _ _ c.requires c.loop-n.n (omega arith)) ∙ c.loop-n.invariant

@@ -1,5 +1,4 @@
 use mathlib.Core.Path.{◌≡◌}
-use Prim.Native.Nat.{◌-◌, ◌≤◌}
 use lib.ListN.{drop}
 use Rattle.star_lex.specs.Rules.{old_bench}
 use Rattle.star_lex.specs.Fits.{all_fit}
@@ -8,7 +7,4 @@ use Rattle.star_check.proofs.all_fit.Given as goal
 
 abbrev pub invariant-loop-n : goal.invariant-loop-n
 invariant-loop-n l =
-    (l.n ≤ l.count) × (all_fit old_bench.longest (drop l.n (file_tokens l.file)) ≡ all_fit old_bench.longest (file_tokens l.file))
-
-abbrev pub decreases-loop-n : goal.decreases-loop-n
-decreases-loop-n l = l.count - l.n
+    all_fit old_bench.longest (drop l.n (file_tokens l.file)) ≡ all_fit old_bench.longest (file_tokens l.file)

@@ -5,16 +5,13 @@ use Prim.Native.Nat.{◌*◌, ◌<◌}
 use native.Mathlib.Omega.{arith}
 use lib.ListN.{length}
 use Rattle.star_text.specs.Bytes.{most_bytes}
-use Rattle.star_frames.specs.Frames.{has_rows}
+use Rattle.star_lex.specs.Room.{has_rows}
 use Rattle.star_frames.proofs.Closing.{rows_in, opening-start, opening-size, opening-turn, opening-end, opened-none}
 use Rattle.star_frames.proofs.open_frames.Goals.{At-loop-n, In-loop-n}
 use Rattle.star_frames.proofs.open_frames.Goals as goal
 
-pub has_rows-requires : goal.has_rows-requires
-has_rows-requires c = tt
-
 pub loop-n-init : goal.loop-n-init
-loop-n-init c = (omega arith, opening-start _)
+loop-n-init c = opening-start _
 
 known : (c : At-loop-n) → has_rows c.args.count (length c.args.tokens.now) ≡ true
 known c = sym c.has_rows.ensures ∙ c.if-has_rows.true
@@ -23,7 +20,7 @@ known c = sym c.has_rows.ensures ∙ c.if-has_rows.true
 row_in : (c : In-loop-n) → (c.loop-n.n * 3 < length c.loop-n.tokens) × (c.loop-n.n < most_bytes)
 row_in c =
     let rows = rows_in c.args.count (length c.args.tokens.now) (known (goal.at.overflow_mul-at c).At-loop-n) in
-    let size = opening-size _ _ _ c.loop-n.invariant.1 in
+    let size = opening-size _ _ _ c.loop-n.invariant in
     (omega (arith, c.loop-n-test.true, rows.0, size), omega (arith, c.loop-n-test.true, rows.1))
 
 pub overflow_mul-at : goal.overflow_mul-at
@@ -35,29 +32,20 @@ offset_bounds-tokens-at c = omega (arith, row_in c)
 pub bounds-tokens-at : goal.bounds-tokens-at
 bounds-tokens-at c = omega (arith, row_in (goal.at.bounds-tokens-at c).In-loop-n)
 
-pub open_kind-requires : goal.open_kind-requires
-open_kind-requires c = tt
-
 pub offset_bounds-tokens-at-in-loop-n : goal.offset_bounds-tokens-at-in-loop-n
 offset_bounds-tokens-at-in-loop-n c = omega (arith, row_in (goal.at.offset_bounds-tokens-at-in-loop-n c).In-loop-n)
 
 pub bounds-tokens-at-in-loop-n : goal.bounds-tokens-at-in-loop-n
 bounds-tokens-at-in-loop-n c = omega (arith, row_in (goal.at.bounds-tokens-at-in-loop-n c).In-loop-n)
 
-pub overflow_add-n : goal.overflow_add-n
-overflow_add-n c = omega (arith, row_in (goal.at.overflow_add-n c).In-loop-n)
-
-pub loop-n-smaller : goal.loop-n-smaller
-loop-n-smaller c = omega (arith, c.loop-n-test.true)
-
 pub loop-n-preserved : goal.loop-n-preserved
 loop-n-preserved c =
-    (omega (arith, c.loop-n-test.true), opening-turn _ _ _ c.loop-n.invariant.1 _ c.open_kind.ensures)
+    opening-turn _ _ _ c.loop-n.invariant _ c.open_kind.ensures
 
 pub returns-after-loop-n : goal.returns-after-loop-n
 returns-after-loop-n c =
-    let end : c.loop-n.n ≡ c.args.count = omega (arith, c.loop-n-test.false, c.loop-n.invariant.0) in
-    opening-end _ _ _ (rw end at c.loop-n.invariant.1) (known (goal.at.returns-after-loop-n c).At-loop-n)
+    let end : c.loop-n.n ≡ c.args.count = omega (arith, c.loop-n-test.false) in
+    opening-end _ _ _ (rw end at c.loop-n.invariant) (known (goal.at.returns-after-loop-n c).At-loop-n)
 
 pub returns-else-has_rows : goal.returns-else-has_rows
 returns-else-has_rows c = sym (opened-none _ _ (sym c.has_rows.ensures ∙ c.if-has_rows.false))

@@ -12,11 +12,5 @@ returns-then-n-tokens c = sym (first-none _ _ (omega arith))
 pub overflow_cast-start : goal.overflow_cast-start
 overflow_cast-start c = omega (arith, c.shared_slice_known-2-1.given (c.args.n * token_width + 1))
 
-pub returns-then-start-before : goal.returns-then-start-before
-returns-then-start-before c = sym (first-row _ _ (omega arith) ∙ omega (arith, c.lead-before.ensures))
-
-pub overflow_cast-result : goal.overflow_cast-result
-overflow_cast-result c = omega (arith, c.shared_slice_known-2-1.given (c.args.n * token_width + 1))
-
 pub returns : goal.returns
-returns c = sym (first-row _ _ (omega arith) ∙ omega (arith, c.lead-before.ensures))
+returns c = c.saturating_sub.ensures ∙ sym (first-row _ _ (omega arith) ∙ omega (arith, c.lead-before.ensures))

@@ -1,27 +1,38 @@
 -- `number_of` meets its contract.
-use mathlib.Core.Path.{◌≡◌, sym, ◌∙◌}
-use native.Mathlib.Omega.{arith}
+use mathlib.Core.Path.{sym, ◌∙◌}
 use borrow.Author.Tests.{eq-eqb, ne_eqb}
 use Rattle.star_number.specs.Taken.{number_in}
-use Rattle.star_number.proofs.number_of.Goals.{Else-kind-ne7}
+use Rattle.star_number.proofs.Places.{single-told}
+use Rattle.star_number.proofs.number_of.Goals.{Else-kind-number}
 use Rattle.star_number.proofs.number_of.Goals as goal
 
-pub returns-then-kind-ne7 : goal.returns-then-kind-ne7
+pub returns-then-kind-number : goal.returns-then-kind-number
 unfolding number_in
-returns-then-kind-ne7 c = rw (ne_eqb c.args.kind 7 (λ q. omega (arith, c.if-kind-ne7.true)))
+returns-then-kind-number c = rw (ne_eqb c.args.kind 7 (λ q. c.if-kind-number.true (q ∙ sym c.number.ensures)))
 
--- past the first test the value is a word
-word : (c : Else-kind-ne7) → c.args.kind ≡ 7
-word c = omega (arith, c.if-kind-ne7.false)
-
-pub returns-then-is_single : goal.returns-then-is_single
+pub returns-then-eq : goal.returns-then-eq
 unfolding number_in
-returns-then-is_single c = rw (eq-eqb _ 7 (word (goal.at.returns-then-is_single c).Else-kind-ne7), sym c.is_single.ensures ∙ c.if-is_single.true)
+returns-then-eq c =
+    rw (
+      eq-eqb _ 7 (c.if-kind-number.false ∙ c.number.ensures),
+      single-told 63 c.args.content.now _ _ c.as_slice.ensures c.eq.ensures ∙ c.if-eq.true,
+    )
 
-pub returns-then-is_single-2 : goal.returns-then-is_single-2
+pub returns-then-eq-2 : goal.returns-then-eq-2
 unfolding number_in
-returns-then-is_single-2 c = rw (eq-eqb _ 7 (word (goal.at.returns-then-is_single-2 c).Else-kind-ne7), sym c.is_single.ensures ∙ c.if-is_single.false, sym c.is_single-2.ensures ∙ c.if-is_single-2.true)
+returns-then-eq-2 c =
+    rw (
+      eq-eqb _ 7 (c.if-kind-number.false ∙ c.number.ensures),
+      single-told 63 c.args.content.now _ _ c.as_slice.ensures c.eq.ensures ∙ c.if-eq.false,
+      single-told 46 c.args.content.now _ _ c.as_slice-2.ensures c.eq-2.ensures ∙ c.if-eq-2.true,
+    )
 
 pub returns : goal.returns
 unfolding number_in
-returns c = rw (eq-eqb _ 7 (word (goal.at.returns c).Else-kind-ne7), sym c.is_single.ensures ∙ c.if-is_single.false, sym c.is_single-2.ensures ∙ c.if-is_single-2.false) c.word_number.ensures
+returns c =
+    rw (
+      eq-eqb _ 7 (c.if-kind-number.false ∙ c.number.ensures),
+      single-told 63 c.args.content.now _ _ c.as_slice.ensures c.eq.ensures ∙ c.if-eq.false,
+      single-told 46 c.args.content.now _ _ c.as_slice-2.ensures c.eq-2.ensures ∙ c.if-eq-2.false,
+    )
+    (c.unwrap_or.ensures ∙ c.word_number.ensures)

@@ -1,36 +1,33 @@
 -- `word_number` meets its contract.
 use mathlib.Core.Path.{◌≡◌, sym, ◌∙◌, ap}
-use borrow.Author.Tests.{not-true, not-false}
-use Rattle.star_number.specs.Pieces.{formed}
-use Rattle.star_number.specs.Taken.{front, taken, word_number}
-use Rattle.star_number.specs.Held.{front_held}
-use Rattle.star_number.proofs.Words.{held_number, word-other, word_held}
-use Rattle.star_number.proofs.word_number.Goals.{After-bracket_at, After-front_of-f}
+use Prim.Native.Nat.{ℕ}
+use Rattle.std.specs.Prelude.{Option as Answered, Some, None, unwrap_or}
+use Rattle.star_number.specs.Taken.{taken, word_number}
+use Rattle.star_number.specs.Held.{front_with, bracket_as}
+use Rattle.star_number.specs.declared.Number.TheVariants.{Text}
+use Rattle.star_number.proofs.Words.{held_number, word-missing, word_found}
+use Rattle.star_number.proofs.word_number.Goals.{After-branch-digits}
 use Rattle.star_number.proofs.word_number.Goals as goal
 
-formed-as : (c : After-front_of-f) → formed (front c.args.content.now) ≡ c.front_of-f.result.ok
-unfolding front_held
-formed-as c = sym (ap (λ f. f.ok) c.front_of-f.ensures)
-
-pub returns-then-not-f : goal.returns-then-not-f
-returns-then-not-f c = sym (word-other _ (formed-as (goal.at.returns-then-not-f c).After-front_of-f ∙ not-true _ c.if-not-f.true))
+pub returns-in_err-decimal : goal.returns-in_err-decimal
+returns-in_err-decimal c =
+    ap (λ r. unwrap_or r Text) c.from_residual.ensures ∙ sym (word-missing _ (sym c.front_of.ensures ∙ c.in_err-decimal.was))
 
 -- once what follows the other pieces is known
-told : (c : After-bracket_at) → formed (front c.args.content.now) ≡ c.front_of-f.result.ok
-    → word_number (taken c.args.content.now) ≡ held_number c.front_of-f.result c.bracket_at.result
-told c e = word_held c.args.content.now (e ∙ not-false _ c.if-not-f.false) ∙ rw (c.bracket_at.ensures, c.front_of-f.ensures)
+told : (c : After-branch-digits) (b : Answered (Answered ℕ)) → c.bracket_at.result ≡ b
+    → held_number (front_with c.in_ok-decimal.decimal 0) (bracket_as b) ≡ word_number (taken c.args.content.now)
+told c b e = sym (word_found _ _ _ b (sym c.front_of.ensures ∙ c.in_ok-decimal.was) (ap bracket_as (sym e) ∙ c.bracket_at.ensures))
 
-pub returns-in-Absent : goal.returns-in-Absent
+pub returns-in_err-digits : goal.returns-in_err-digits
 unfolding held_number
-returns-in-Absent c =
-    c.bare.ensures ∙ sym (told (goal.at.returns-in-Absent c).After-bracket_at (formed-as (goal.at.returns-in-Absent c).After-front_of-f) ∙ ap (held_number _) c.in-Absent.is)
+returns-in_err-digits c =
+    ap (λ r. unwrap_or r Text) c.from_residual-in_err-digits.ensures ∙ told (goal.at.returns-in_err-digits c).After-branch-digits None c.in_err-digits.was
 
-pub returns-in-Digits : goal.returns-in-Digits
+pub returns-in-Some : goal.returns-in-Some
 unfolding held_number
-returns-in-Digits c =
-    c.uncertain.ensures ∙ sym (told (goal.at.returns-in-Digits c).After-bracket_at (formed-as (goal.at.returns-in-Digits c).After-front_of-f) ∙ ap (held_number _) c.in-Digits.is)
+returns-in-Some c =
+    c.uncertain.ensures ∙ told (goal.at.returns-in-Some c).After-branch-digits (Some (Some c.in-Some.digits)) (c.in_ok-digits.was ∙ ap Some c.in-Some.is)
 
-pub returns-in-Bad : goal.returns-in-Bad
+pub returns-in-None : goal.returns-in-None
 unfolding held_number
-returns-in-Bad c =
-    sym (told (goal.at.returns-in-Bad c).After-bracket_at (formed-as (goal.at.returns-in-Bad c).After-front_of-f) ∙ ap (held_number _) c.in-Bad.is)
+returns-in-None c = c.bare.ensures ∙ told (goal.at.returns-in-None c).After-branch-digits (Some None) (c.in_ok-digits.was ∙ ap Some c.in-None.is)

@@ -1,9 +1,11 @@
 -- `read_block` meets its contract: each turn reads entries and one frame and comes back into the block, until neither comes.
 use mathlib.Core.Path.{refl, ◌∙◌}
 use native.Mathlib.Omega.{arith}
+use Rattle.std.proofs.lemmas.Result.{err_from_is_err_and}
 use Rattle.star_grammar.specs.Machine.{in_block, set_of}
-use Rattle.star_parse.proofs.Ahead.{ahead-is, headed-token}
-use Rattle.star_parse.proofs.Going.{comes, stays, onto, over-block, closes}
+use Rattle.star_parse.proofs.Ahead.{headed-token}
+use Rattle.star_parse.proofs.Coded.{number-some}
+use Rattle.star_parse.proofs.Going.{comes, stays, over-block, closes}
 use Rattle.star_parse.proofs.read_block.Goals as goal
 
 pub put_set-p-requires : goal.put_set-p-requires
@@ -18,75 +20,83 @@ loop-p-init c =
       refl,
       refl,
       refl,
-      λ before outcome a. comes _ _ _ (set.ensures.counted.refusal ∙ c.requires.ready.going) a,
+      λ before outcome a. a,
     )
 
-pub read_entries-p-requires : goal.read_entries-p-requires
-read_entries-p-requires c = record { going = c.loop-p-test.true; bounds = c.loop-p.invariant.0 }
+pub read_entries-requires : goal.read_entries-requires
+read_entries-requires c = record { going = refl; bounds = c.loop-p.invariant.0 }
 
-pub returns-then-p-ne0 : goal.returns-then-p-ne0
+pub returns-in_err-p : goal.returns-in_err-p
 unfolding set_of
-returns-then-p-ne0 c =
+returns-in_err-p c =
     let l = c.loop-p in
-    let own = c.read_entries-p in
-    record {
-      bounds = own.ensures.onward.bounds;
-      further = omega (arith, c.put_set-p.ensures, l.invariant.1, own.ensures.onward.further);
+    let own = c.in_err-p.ensures in
+    let e = err_from_is_err_and c.from_residual.result c.from_residual.ensures.1 in
+    rw (e.1, e.2) record {
+      bounds = own.onward.bounds;
+      further = omega (arith, c.put_set-p.ensures, l.invariant.1, own.onward.further);
       goes = λ before outcome a.
-          stays _ _ _ c.if-p-ne0.true
-          (own.ensures.onward.goes (in_block c.put_set-p.result.sets) _ refl before outcome
-          ((l.invariant.6 before outcome (over-block _ _ _ _ _ a c.requires.headed c.put_set-p.ensures)).goes c.loop-p-test.true));
+          stays _ _ _ (number-some c.in_err-p.field-0.0.reason)
+          (own.onward.goes (in_block c.put_set-p.result.sets) _ refl before outcome
+          (l.invariant.6 before outcome (over-block _ _ _ _ _ a c.requires.headed c.put_set-p.ensures)));
     }
 
-pub sort_at-requires : goal.sort_at-requires
-sort_at-requires c = c.read_entries-p.ensures.onward.bounds.rows
+pub next_is-requires : goal.next_is-requires
+next_is-requires c = c.in_ok-p.ensures.onward.bounds.rows
 
-pub returns-then-sort_at-ne-FRAME : goal.returns-then-sort_at-ne-FRAME
+pub returns-then-not-next_is : goal.returns-then-not-next_is
 unfolding set_of
-returns-then-sort_at-ne-FRAME c =
+returns-then-not-next_is c =
     let l = c.loop-p in
-    let own = c.read_entries-p in
-    let e = c.sort_at.ensures.is in
-    let none = own.ensures.no_entry c.if-p-ne0.false in
+    let own = c.in_ok-p.ensures in
+    let none = own.no_entry refl in
     record {
-      bounds = own.ensures.onward.bounds;
-      further = omega (arith, c.put_set-p.ensures, l.invariant.1, own.ensures.onward.further);
+      bounds = own.onward.bounds;
+      further = omega (arith, c.put_set-p.ensures, l.invariant.1, own.onward.further);
       goes = λ before outcome a.
-          onto _ _ _ (λ k. closes _ _ _ k (λ h. c.if-sort_at-ne-FRAME.true (e ∙ h)) none.loop none.name)
-          (own.ensures.onward.goes (in_block c.put_set-p.result.sets) _ refl before outcome
-          ((l.invariant.6 before outcome (over-block _ _ _ _ _ a c.requires.headed c.put_set-p.ensures)).goes c.loop-p-test.true));
+          comes _ _ _ refl
+          (closes _ _ _
+          ((own.onward.goes (in_block c.put_set-p.result.sets) _ refl before outcome
+          (l.invariant.6 before outcome (over-block _ _ _ _ _ a c.requires.headed c.put_set-p.ensures))).goes refl)
+          (c.next_is.ensures.not c.if-not-next_is.true) none.loop none.name);
     }
 
-pub read_frame-p-requires : goal.read_frame-p-requires
-read_frame-p-requires c = record { ready = record { going = c.if-p-ne0.false; bounds = c.read_entries-p.ensures.onward.bounds }; ahead = ahead-is _ _ _ _ _ c.sort_at.ensures c.if-sort_at-ne-FRAME.false (omega arith) }
+pub read_frame-requires : goal.read_frame-requires
+read_frame-requires c = record { ready = record { going = refl; bounds = c.in_ok-p.ensures.onward.bounds }; ahead = c.next_is.ensures.is c.if-not-next_is.false }
+
+pub returns-in_err-p-2 : goal.returns-in_err-p-2
+unfolding set_of
+returns-in_err-p-2 c =
+    let l = c.loop-p in
+    let own = c.in_ok-p.ensures in
+    let frame = c.in_err-p-2.ensures in
+    let e = err_from_is_err_and c.from_residual-in_err-p-2.result c.from_residual-in_err-p-2.ensures.1 in
+    rw (e.1, e.2) record {
+      bounds = frame.bounds;
+      further = omega (arith, c.put_set-p.ensures, l.invariant.1, own.onward.further, frame.further);
+      goes = λ before outcome a.
+          stays _ _ _ (number-some c.in_err-p-2.field-0.0.reason)
+          (frame.goes before outcome
+          ((own.onward.goes (in_block c.put_set-p.result.sets) _ refl before outcome
+          (l.invariant.6 before outcome (over-block _ _ _ _ _ a c.requires.headed c.put_set-p.ensures))).goes refl));
+    }
 
 pub loop-p-smaller : goal.loop-p-smaller
-loop-p-smaller c = omega (arith, c.read_frame-p.ensures.bounds, c.read_frame-p.ensures.further, c.read_entries-p.ensures.onward.further)
+loop-p-smaller c = omega (arith, c.in_ok-p-2.ensures.bounds, c.in_ok-p-2.ensures.further, c.in_ok-p.ensures.onward.further)
 
 pub loop-p-preserved : goal.loop-p-preserved
 unfolding set_of
 loop-p-preserved c =
     let l = c.loop-p in
-    let own = c.read_entries-p in
-    let frame = c.read_frame-p in (
-      frame.ensures.bounds,
-      omega (arith, l.invariant.1, own.ensures.onward.further, frame.ensures.further),
-      frame.auto.sets ∙ l.invariant.2,
-      frame.auto.names ∙ own.auto.names ∙ l.invariant.3,
-      frame.auto.packets ∙ own.auto.packets ∙ l.invariant.4,
-      frame.auto.values ∙ own.auto.values ∙ l.invariant.5,
+    let own = c.in_ok-p.ensures in
+    let frame = c.in_ok-p-2.ensures in (
+      frame.bounds,
+      omega (arith, l.invariant.1, own.onward.further, frame.further),
+      c.read_frame.auto.sets ∙ l.invariant.2,
+      c.read_frame.auto.names ∙ c.read_entries.auto.names ∙ l.invariant.3,
+      c.read_frame.auto.packets ∙ c.read_entries.auto.packets ∙ l.invariant.4,
+      c.read_frame.auto.values ∙ c.read_entries.auto.values ∙ l.invariant.5,
       λ before outcome a.
-          frame.ensures.goes before outcome
-          ((own.ensures.onward.goes (in_block c.put_set-p.result.sets) _ refl before outcome ((l.invariant.6 before outcome a).goes c.loop-p-test.true)).goes
-          c.if-p-ne0.false),
+          (frame.goes before outcome
+          ((own.onward.goes (in_block c.put_set-p.result.sets) _ refl before outcome (l.invariant.6 before outcome a)).goes refl)).goes refl,
     )
-
-pub returns : goal.returns
-returns c =
-    let l = c.loop-p in
-    record {
-      bounds = l.invariant.0;
-      further = omega (arith, c.put_set-p.ensures, l.invariant.1);
-      goes = λ before outcome a.
-          stays _ _ _ c.loop-p-test.false (l.invariant.6 before outcome (over-block _ _ _ _ _ a c.requires.headed c.put_set-p.ensures));
-    }

@@ -25,7 +25,7 @@ plain_length-size-requires c = record { file_len_bound = (within c).small; count
 
 pub returns-then-not-has_place : goal.returns-then-not-has_place
 returns-then-not-has_place c =
-    record { value = size (goal.at.returns-then-not-has_place c).After-has_place; out_after = cleared-whole _ c.clear_bytes.ensures ∙ sym (no_place _ (plain_in c.args.without c.args.file.now c.args.tokens.now c.args.count) (sym (placed (goal.at.returns-then-not-has_place c).After-has_place) ∙ c.if-not-has_place.true)) }
+    record { value = size (goal.at.returns-then-not-has_place c).After-has_place; out_after = cleared-whole _ (c.clear_from.ensures 0 (λ _ e. e)) ∙ sym (no_place _ (plain_in c.args.without c.args.file.now c.args.tokens.now c.args.count) (sym (placed (goal.at.returns-then-not-has_place c).After-has_place) ∙ c.if-not-has_place.true)) }
 
 pub put_tokens-requires : goal.put_tokens-requires
 put_tokens-requires c =
@@ -39,6 +39,6 @@ returns c =
     let same : plain_rows args.without args.file.now args.tokens.now c.rows_taken-rows.result ≡ plain_in c.args.without c.args.file.now c.args.tokens.now c.args.count
     = ap (plain_rows args.without args.file.now args.tokens.now) c.rows_taken-rows.ensures in record {
       value = size (goal.at.returns c).After-has_place;
-      out_after = fill-clear (plain_in c.args.without c.args.file.now c.args.tokens.now c.args.count) args.out.now _ (size (goal.at.returns c).After-has_place) (omega (arith, fits, size (goal.at.returns c).After-has_place)) (rw same at c.put_tokens.ensures) c.clear_bytes-2.ensures
+      out_after = fill-clear (plain_in c.args.without c.args.file.now c.args.tokens.now c.args.count) args.out.now _ (size (goal.at.returns c).After-has_place) (omega (arith, fits, size (goal.at.returns c).After-has_place)) (rw same at c.put_tokens.ensures) (c.clear_from-2.ensures 0 (λ _ e. e))
           ∙ rw (size (goal.at.returns c).After-has_place) (sym stands);
     }

@@ -1,16 +1,14 @@
--- `clear_tables` meets its contract: each table is cleared from its start.
-use mathlib.Core.Path.{◌∙◌}
-use Rattle.star_rows.proofs.Clear.{cleared-whole}
+-- `clear_tables` meets its contract: each table is filled with 0.
 use Rattle.star_read.specs.Answer.{tables_of}
 use Rattle.star_read.proofs.clear_tables.Goals as goal
 
-pub returns : goal.returns
+pub returns-clause-leaves : goal.returns-clause-leaves
 unfolding tables_of
-returns c =
+returns-clause-leaves c =
     λ n place. record {
-      tokens = c.clear_from.ensures ∙ cleared-whole _;
-      sets = c.clear_from-2.ensures ∙ cleared-whole _;
-      names = c.clear_from-3.ensures ∙ cleared-whole _;
-      packets = c.clear_from-4.ensures ∙ cleared-whole _;
-      values = c.clear_from-5.ensures ∙ cleared-whole _;
+      tokens = c.fill.ensures.after (λ y e. e);
+      sets = c.fill-2.ensures.after (λ y e. e);
+      names = c.fill-3.ensures.after (λ y e. e);
+      packets = c.fill-4.ensures.after (λ y e. e);
+      values = c.fill-5.ensures.after (λ y e. e);
     }

@@ -2,6 +2,6 @@
 use Rattle.star_lex.specs.Rules.{layout_rules}
 use Rattle.star_read.proofs.read_old.Goals as goal
 
-pub returns : goal.returns
+pub returns-clause-reads : goal.returns-clause-reads
 unfolding layout_rules
-returns c = c.read_as.ensures
+returns-clause-reads c = c.read_as.ensures.gives

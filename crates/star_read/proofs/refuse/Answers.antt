@@ -3,7 +3,7 @@ use mathlib.Core.Path.{refl}
 use Rattle.star_read.specs.Answer.{read_answer}
 use Rattle.star_read.proofs.refuse.Goals as goal
 
-pub returns : goal.returns
+pub returns-clause-gives : goal.returns-clause-gives
 unfolding read_answer
-returns c =
-    record { answer = refl; leaves = c.clear_tables.ensures _ _ }
+returns-clause-gives c =
+    record { answer = refl; leaves = c.clear_tables.ensures.leaves _ _ }

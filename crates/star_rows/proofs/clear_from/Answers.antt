@@ -1,19 +1,9 @@
--- `clear_from` meets its contract: the words from `from` up to the present place are 0, and the others are as they were.
-use native.Mathlib.Omega.{arith}
-use Rattle.star_rows.proofs.Clear.{clearing-start, clearing-turn, clearing-end}
+-- `clear_from` meets its contract: each element from `from` on is the default, and the others are as they were.
+use Rattle.std.proofs.Common.{rules, arith, length-take, length-drop}
+use Rattle.star_rows.proofs.Clear.{folds-same, filled-part}
 use Rattle.star_rows.proofs.clear_from.Goals as goal
 
-pub loop-at-init : goal.loop-at-init
-loop-at-init c = clearing-start _ _
-
-pub overflow_add-at : goal.overflow_add-at
-overflow_add-at c = omega arith
-
-pub loop-at-smaller : goal.loop-at-smaller
-loop-at-smaller c = omega (arith, c.loop-at.invariant.size)
-
-pub loop-at-preserved : goal.loop-at-preserved
-loop-at-preserved c = clearing-turn c.loop-at.invariant (omega arith)
-
-pub returns : goal.returns
-returns c = clearing-end c.loop-at.invariant (omega arith)
+pub returns-then-from-table : goal.returns-then-from-table
+returns-then-from-table g c = λ zero one.
+    filled-part _ _ zero c.args.table.now _ (folds-same _ zero (λ p y q h. one y (search rules)) _ _ _ c.fill_with.ensures.ran.1)
+    (omega (arith, simp (length-take, length-drop) at c.fill_with.ensures.len)) (omega arith)

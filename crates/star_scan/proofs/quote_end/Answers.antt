@@ -39,12 +39,6 @@ returns-then-is_terminate c = λ classes.
     )))
     ∙ c.loop-at.invariant classes
 
-pub overflow_add-at : goal.overflow_add-at
-overflow_add-at c = omega arith
-
-pub loop-at-smaller : goal.loop-at-smaller
-loop-at-smaller c = omega arith
-
 pub loop-at-preserved : goal.loop-at-preserved
 loop-at-preserved c = λ classes.
     sym (quote-at _ _ c.loop-at.at _ (omega arith)

@@ -1,15 +1,18 @@
 -- `white_at` meets its contract: the end counts as white space.
-use mathlib.Core.Path.{sym, ◌∙◌}
+use mathlib.Core.Path.{sym, ◌∙◌, ap}
 use native.Mathlib.Omega.{arith}
+use borrow.Author.Tests.{ltb-true, ltb-false}
+use Rattle.star_text.specs.Classes.{white_in}
 use Rattle.star_text.proofs.Classes.{white-is}
 use Rattle.star_lex.proofs.Closing.{white-in, white-end}
 use Rattle.star_scan.proofs.white_at.Goals as goal
 
-pub returns-then-at-file : goal.returns-then-at-file
-returns-then-at-file c = λ classes.
+pub returns-in-Some : goal.returns-in-Some
+returns-in-Some c = λ classes.
     c.is_white.ensures
-    ∙ white-is classes _ (omega (arith, c.shared_slice_known-then-at-file-1.given c.args.at))
-    ∙ sym (white-in _ _ c.if-at-file.true)
+    ∙ ap (white_in c.args.classes.now) (c.in-Some.ensures.lookup.4 (omega arith) 0)
+    ∙ white-is classes _ (omega (arith, c.type_inv.file c.args.at))
+    ∙ sym (white-in _ _ (ltb-true _ _ (sym c.in-Some.ensures.lookup.0)))
 
-pub returns-else-at-file : goal.returns-else-at-file
-returns-else-at-file c = λ classes. sym (white-end _ _ c.if-at-file.false)
+pub returns-in-None : goal.returns-in-None
+returns-in-None c = λ classes. sym (white-end _ _ (ltb-false _ _ (sym c.in-None.ensures.lookup.0)))

@@ -10,8 +10,7 @@ use Rattle.star_text.specs.Bytes.{is_white}
 use Rattle.star_text.proofs.Classes.{white-is, run-line}
 use Rattle.star_lex.specs.Tokens.{opening}
 use Rattle.star_lex.specs.Split.{lexeme, quoted, quoted_lexeme}
-use Rattle.star_lex.specs.Answer.{scanned_at}
-use Rattle.star_lex.specs.declared.Scanned.TheVariants.{Gap}
+use Rattle.star_lex.specs.Answer.{Gap, scanned_at}
 use Rattle.star_split.proofs.lexeme.Goals.{After-is_white}
 use Rattle.star_split.proofs.lexeme.Goals as goal
 

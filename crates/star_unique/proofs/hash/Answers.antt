@@ -7,32 +7,17 @@ use Rattle.star_unique.specs.Chain.{hash_of}
 use Rattle.star_unique.proofs.Marks.{mix_next, mix-end}
 use Rattle.star_unique.proofs.hash.Goals as goal
 
-pub loop-i-init : goal.loop-i-init
+pub loop-b-init : goal.loop-b-init
 unfolding hash_of key
-loop-i-init c = (omega arith, mod-lt _ (omega arith), refl)
+loop-b-init c = (mod-lt _ (omega arith), refl)
 
 pub overflow_mul-h : goal.overflow_mul-h
 overflow_mul-h c = omega arith
 
-pub bounds-bytes-i : goal.bounds-bytes-i
-bounds-bytes-i c = omega arith
-
-pub overflow_cast-h : goal.overflow_cast-h
-overflow_cast-h c = omega (arith, c.shared_slice_known-1.given c.loop-i.i)
-
-pub overflow_add-h : goal.overflow_add-h
-overflow_add-h c = omega (arith, c.shared_slice_known-1.given c.loop-i.i)
-
-pub overflow_add-i : goal.overflow_add-i
-overflow_add-i c = omega arith
-
-pub loop-i-smaller : goal.loop-i-smaller
-loop-i-smaller c = omega arith
-
-pub loop-i-preserved : goal.loop-i-preserved
-loop-i-preserved c =
-    let at = c.loop-i in
-    (omega arith, mod-lt _ (omega arith), sym (mix_next at.h _ at.i (omega arith)) ∙ at.invariant.2)
+pub loop-b-preserved : goal.loop-b-preserved
+loop-b-preserved c =
+    let at = c.loop-b in
+    (mod-lt _ (omega arith), sym (mix_next at.h _ at.b-index (omega arith)) ∙ at.invariant.1)
 
 pub returns : goal.returns
-returns c = sym (mix-end c.loop-i.h _ c.loop-i.i (omega arith)) ∙ c.loop-i.invariant.2
+returns c = sym (mix-end c.loop-b.h _ c.loop-b.b-index (omega arith)) ∙ c.loop-b.invariant.1

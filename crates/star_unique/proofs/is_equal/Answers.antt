@@ -19,10 +19,10 @@ offset_bounds-tokens-m c = omega (arith, (held (goal.at.offset_bounds-tokens-m c
 pub bounds-tokens-m : goal.bounds-tokens-m
 bounds-tokens-m c = omega (arith, (held (goal.at.bounds-tokens-m c).Start).room)
 
-pub returns-then-tokens-m : goal.returns-then-tokens-m
-returns-then-tokens-m c = rw (ne_eqb _ _ c.if-tokens-m.true)
+pub returns-else-tokens-m : goal.returns-else-tokens-m
+returns-else-tokens-m c = rw (ne_eqb _ _ c.if-tokens-m.false)
 
-pub returns : goal.returns
+pub returns-then-tokens-m : goal.returns-then-tokens-m
 unfolding compare_of
-returns c =
-    ap (λ r. r.equal) c.compare-compared.ensures ∙ rw (eq-eqb _ _ c.if-tokens-m.false, c.span.ensures)
+returns-then-tokens-m c =
+    ap (λ r. r.equal) c.compare.ensures ∙ rw (eq-eqb _ _ c.if-tokens-m.true, c.span.ensures)

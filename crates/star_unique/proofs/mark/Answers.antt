@@ -1,5 +1,5 @@
 -- `mark` meets its contract: the tokens passed repeat nothing, and are marked.
-use mathlib.Core.Path.{refl, sym, ◌∙◌}
+use mathlib.Core.Path.{◌≡◌, refl, sym, ◌∙◌}
 use native.Mathlib.Omega.{arith}
 use Rattle.star_lex.proofs.Held.{count_small}
 use Rattle.star_unique.proofs.Marking.{between_start, room-here, between-visit, between-taken, between-new, between-value, between-end}
@@ -20,12 +20,6 @@ bounds-tokens-n c = omega (arith, room-here _ _ _ _ _ c.loop-n.invariant.0.marks
 pub is_value-requires : goal.is_value-requires
 is_value-requires c = tt
 
-pub overflow_add-n : goal.overflow_add-n
-overflow_add-n c = omega arith
-
-pub loop-n-smaller-then-is_value : goal.loop-n-smaller-then-is_value
-loop-n-smaller-then-is_value c = omega arith
-
 pub loop-n-preserved-then-is_value : goal.loop-n-preserved-then-is_value
 loop-n-preserved-then-is_value c =
     let at = c.loop-n in
@@ -42,12 +36,6 @@ returns-then-visit c =
     let v = between-taken _ _ _ _ _ _ _ at.invariant.0 (omega arith) _ _ _ c.visit.ensures c.if-visit.true in
     record { value = v.0; spans = v.1; tokens_after = v.2 }
 
-pub overflow_add-n-in-loop-n : goal.overflow_add-n-in-loop-n
-overflow_add-n-in-loop-n c = omega arith
-
-pub loop-n-smaller : goal.loop-n-smaller
-loop-n-smaller c = omega arith
-
 pub loop-n-preserved : goal.loop-n-preserved
 loop-n-preserved c =
     let at = c.loop-n in
@@ -60,4 +48,5 @@ loop-n-preserved c =
 pub returns : goal.returns
 returns c =
     let at = c.loop-n.invariant.0 in
-    record { value = between-end _ _ _ _ _ _ _ at (omega arith); spans = at.marks.spans; tokens_after = at.back }
+    let end : c.loop-n.n ≡ c.args.count = omega arith in
+    record { value = rw end at (between-end _ _ _ _ _ _ _ at (omega arith)); spans = at.marks.spans; tokens_after = rw end at at.back }

@@ -13,10 +13,10 @@ use Rattle.star_unique.proofs.unmark.Goals as goal
 
 pub loop-n-init : goal.loop-n-init
 unfolding unmarked
-loop-n-init c = (omega arith, refl)
+loop-n-init c = refl
 
 kept : (c : At-loop-n) → length c.loop-n.tokens ≡ length c.args.tokens.now
-kept c = ap length c.loop-n.invariant.1 ∙ length-unmarked c.loop-n.n c.args.tokens.now
+kept c = ap length c.loop-n.invariant ∙ length-unmarked c.loop-n.n c.args.tokens.now
 
 -- the row has its place in the table
 room : (c : At-loop-n) → c.loop-n.n < c.args.rows → c.loop-n.n * 3 < length c.loop-n.tokens
@@ -43,16 +43,10 @@ offset_bounds-tokens-n-in-loop-n c = omega (arith, small (goal.at.offset_bounds-
 pub bounds-tokens-n-in-loop-n : goal.bounds-tokens-n-in-loop-n
 bounds-tokens-n-in-loop-n c = room (goal.at.bounds-tokens-n-in-loop-n c).At-loop-n (omega arith)
 
-pub overflow_add-n : goal.overflow_add-n
-overflow_add-n c = omega arith
-
-pub loop-n-smaller : goal.loop-n-smaller
-loop-n-smaller c = omega arith
-
 pub loop-n-preserved : goal.loop-n-preserved
-loop-n-preserved c = (omega arith, rw c.kind_of.ensures (unmarked-next _ _ _ c.loop-n.invariant.1))
+loop-n-preserved c = rw c.kind_of.ensures (unmarked-next _ _ _ c.loop-n.invariant)
 
 pub returns : goal.returns
 returns c =
     let end : c.loop-n.n ≡ c.args.rows = omega arith in
-    c.loop-n.invariant.1 ∙ ap (λ n. unmarked n c.args.tokens.now) end
+    c.loop-n.invariant ∙ ap (λ n. unmarked n c.args.tokens.now) end

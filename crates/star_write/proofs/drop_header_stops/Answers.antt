@@ -1,33 +1,21 @@
 -- `drop_header_stops` meets its contract: what is read is written by `finish`.
+use mathlib.Core.Path.{sym}
 use Rattle.star_read.specs.Read.{as_old}
-use Rattle.star_read.specs.Answer.{tables, sizes, Tables}
+use Rattle.star_read.specs.Answer.{held, sizes}
 use Rattle.star_read.proofs.Accepted.{read-holds-via}
+use Rattle.star_read.proofs.Lent.{same-sizes}
 use Rattle.star_write.specs.Write.{drop_of}
-use Rattle.star_write.proofs.Outcomes.{same-sizes, leaving-at}
-use Rattle.star_write.proofs.drop_header_stops.Goals.{After-read_old-reading}
+use Rattle.star_write.proofs.Outcomes.{leaving-at}
 use Rattle.star_write.proofs.drop_header_stops.Goals as goal
 
--- the tables before
-abbrev old : After-read_old-reading → Tables
-old c =
-    let args = c.args in
-    tables args.tokens.now args.sets.now args.names.now args.packets.now args.values.now
-
--- and after reading
-abbrev new : After-read_old-reading → Tables
-new c =
-    let last = c.read_old-reading.new.tokens in
-    tables last c.read_old-reading.new.sets c.read_old-reading.new.names c.read_old-reading.new.packets c.read_old-reading.new.values
-
-pub read_old-reading-requires : goal.read_old-reading-requires
-read_old-reading-requires c = tt
-
 pub finish-requires : goal.finish-requires
-finish-requires c = read-holds-via _ (sizes (old (goal.at.finish-requires c).After-read_old-reading)) as_old _ c.read_old-reading.ensures.answer _ c.read_old-reading.ensures.leaves
+finish-requires c =
+    let read = c.read_old-read.ensures.reads in
+    read-holds-via c.args.file.now (sizes (held c.args.tables.now)) as_old _ read.answer _ read.leaves
 
-pub returns : goal.returns
+pub returns-clause-writes : goal.returns-clause-writes
 unfolding drop_of
-returns c =
-    let kept = c.read_old-reading.auto in
-    let same = same-sizes (old (goal.at.returns c).After-read_old-reading) (new (goal.at.returns c).After-read_old-reading) kept.tokens kept.sets kept.names kept.packets kept.values in
-    leaving-at same (c.finish.ensures as_old (sizes (old (goal.at.returns c).After-read_old-reading)) c.read_old-reading.ensures.answer same c.read_old-reading.ensures.leaves)
+returns-clause-writes c =
+    let read = c.read_old-read.ensures in
+    let same = sym (same-sizes _ _ read.same) in
+    leaving-at same (c.finish.ensures.writes as_old (sizes (held c.args.tables.now)) read.reads.answer same read.reads.leaves)

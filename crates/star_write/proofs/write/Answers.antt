@@ -2,5 +2,5 @@
 use Rattle.star_write.proofs.Outcomes.{writes-today}
 use Rattle.star_write.proofs.write.Goals as goal
 
-pub returns : goal.returns
-returns c = writes-today _ _ _ _ _ _ c.write_layout.ensures
+pub returns-clause-writes : goal.returns-clause-writes
+returns-clause-writes c = writes-today _ _ _ _ _ _ c.write_layout.ensures.writes

@@ -17,14 +17,14 @@ use Rattle.star_convert.proofs.frames.put_closes.Goals as goal
 
 pub loop-n-init : goal.loop-n-init
 unfolding plain_by flat_map
-loop-n-init c = (omega arith, fill_none _, refl)
+loop-n-init c = (fill_none _, refl)
 
 -- the row is in the table
 row_in : (c : In-loop-n)
     → (c.loop-n.n * 3 < length c.args.tokens.now) × (c.loop-n.n < 1048576)
 row_in c =
     let h = c.requires.holds_today in
-    (omega (arith, c.loop-n-test.true, today-room _ _ _ _ h), omega (arith, c.loop-n-test.true, today-few _ _ _ _ h))
+    (omega (arith, today-room _ _ _ _ h), omega (arith, today-few _ _ _ _ h))
 
 pub overflow_mul-kind : goal.overflow_mul-kind
 overflow_mul-kind c = omega (arith, row_in c)
@@ -35,9 +35,6 @@ offset_bounds-tokens-n c = omega (arith, row_in c)
 pub bounds-tokens-n : goal.bounds-tokens-n
 bounds-tokens-n c = (row_in (goal.at.bounds-tokens-n c).In-loop-n).0
 
-pub content-content-requires : goal.content-content-requires
-content-content-requires c = tt
-
 -- the turn's token
 swapping : (c : After-content-content)
     → Swap c.args.layout (other_row c.args.layout (file_tokens c.args.file.now)) c.args.out.now c.loop-n.n (get_or c.args.tokens.now (c.loop-n.n * 3) 0) c.content-content.result.now
@@ -46,10 +43,7 @@ swapping c =
 
 pub put_close-requires : goal.put_close-requires
 put_close-requires c =
-    omega (arith, (swapping (goal.at.put_close-requires c).After-content-content).room, c.loop-n.invariant.1.counts, c.loop-n.invariant.2)
-
-pub token_length-at-requires : goal.token_length-at-requires
-token_length-at-requires c = tt
+    omega (arith, (swapping (goal.at.put_close-requires c).After-content-content).room, c.loop-n.invariant.0.counts, c.loop-n.invariant.1)
 
 -- its length
 sized : (c : After-token_length-at)
@@ -58,23 +52,16 @@ sized c = c.token_length-at.ensures
 
 pub overflow_add-at : goal.overflow_add-at
 overflow_add-at c =
-    omega (arith, (swapping (goal.at.overflow_add-at c).After-content-content).within, c.loop-n.invariant.1.counts, sized c)
-
-pub overflow_add-n : goal.overflow_add-n
-overflow_add-n c = omega arith
-
-pub loop-n-smaller : goal.loop-n-smaller
-loop-n-smaller c = omega arith
+    omega (arith, (swapping (goal.at.overflow_add-at c).After-content-content).within, c.loop-n.invariant.0.counts, sized c)
 
 pub loop-n-preserved : goal.loop-n-preserved
 loop-n-preserved c =
     let turned = c.loop-n in
     let put = c.put_close in (
-      omega arith,
-      rw (sized c) ((swapping (goal.at.loop-n-preserved c).After-content-content).turn _ _ _ _ turned.invariant.1 put.ensures),
-      put.auto.out ∙ turned.invariant.2,
+      rw (sized c) ((swapping (goal.at.loop-n-preserved c).After-content-content).turn _ _ _ _ turned.invariant.0 put.ensures),
+      put.auto.out ∙ turned.invariant.1,
     )
 
 pub returns : goal.returns
 returns c =
-    swapped _ _ _ _ c.requires.holds_today c.requires.reading_by _ c.requires.out_value c.loop-n.n (omega arith) _ _ c.loop-n.invariant.1
+    swapped _ _ _ _ c.requires.holds_today c.requires.reading_by _ c.requires.out_value c.loop-n.n (omega arith) _ _ c.loop-n.invariant.0

@@ -1,5 +1,4 @@
 use mathlib.Core.Path.{◌≡◌}
-use Prim.Native.Nat.{◌-◌, ◌≤◌}
 use lib.ListN.{length}
 use Rattle.star_lex.specs.Holds.{file_tokens}
 use Rattle.star_plain.specs.Put.{Filled}
@@ -9,7 +8,4 @@ use Rattle.star_convert.proofs.frames.put_closes.Given as goal
 
 abbrev pub invariant-loop-n : goal.invariant-loop-n
 invariant-loop-n l =
-    (l.n ≤ l.count) × Filled (plain_first l.n (other_row l.layout (file_tokens l.file))) l.initial.out l.out l.at × (length l.out ≡ length l.initial.out)
-
-abbrev pub decreases-loop-n : goal.decreases-loop-n
-decreases-loop-n l = l.count - l.n
+    Filled (plain_first l.n (other_row l.layout (file_tokens l.file))) l.initial.out l.out l.at × (length l.out ≡ length l.initial.out)

@@ -1,41 +1,51 @@
 -- `exponent_at` meets its contract.
 use mathlib.Core.Path.{◌≡◌, sym, ◌∙◌, ap}
-use mathlib.Core.Bool.{true}
-use Prim.Native.Nat.{◌+◌, ◌≤◌, ◌<◌}
+use Prim.Native.Nat.{◌+◌, ◌≤◌}
 use native.Mathlib.Omega.{arith}
-use lib.ListN.{length, drop}
-use Rattle.star_number.specs.Held.{letter_next}
-use Rattle.star_number.proofs.Held.{letter-inside, exponent-none, exponent-some, sign-length-le}
-use Rattle.star_number.proofs.scan.exponent_at.Goals.{After-sign_length, Else-not-is_letter}
+use borrow.Author.Tests.{lt-ltb, le-ltb}
+use lib.Dec.{ltb}
+use lib.ListN.{length, drop, length-drop}
+use Rattle.star_lex.specs.Split.{starts}
+use Rattle.star_number.specs.Taken.{exponent_at}
+use Rattle.star_number.specs.Held.{exponent_held}
+use Rattle.star_number.proofs.Digits.{digits-within}
+use Rattle.star_number.proofs.Held.{letter-inside, exponent-none, exponent-some, sign-within}
+use Rattle.star_number.proofs.scan.exponent_at.Goals.{After-digits-run, After-sign_length}
 use Rattle.star_number.proofs.scan.exponent_at.Goals as goal
 
 pub returns-then-not-is_letter : goal.returns-then-not-is_letter
-returns-then-not-is_letter c = sym (exponent-none _ _ (sym c.is_letter.ensures ∙ c.if-not-is_letter.true))
+returns-then-not-is_letter c = rw (exponent-none _ _ (sym c.is_letter.ensures ∙ c.if-not-is_letter.true))
 
--- after a letter
-letter : (c : Else-not-is_letter) → letter_next (drop c.args.at c.args.content.now) ≡ true
-letter c = sym c.is_letter.ensures ∙ c.if-not-is_letter.false
+pub overflow_add-sign : goal.overflow_add-sign
+overflow_add-sign c = omega (arith, letter-inside c.args.content.now c.args.at (sym c.is_letter.ensures ∙ c.if-not-is_letter.false))
 
-within : (c : Else-not-is_letter) → c.args.at < length c.args.content.now
-within c = letter-inside _ _ (letter c)
+-- the digits begin within the content
+from-within : (c : After-sign_length) → c.args.at + 1 + c.sign_length.result ≤ length c.args.content.now
+from-within c =
+    let bs = c.args.content.now in
+    let k = c.args.at in
+    omega (arith, letter-inside bs k (sym c.is_letter.ensures ∙ c.if-not-is_letter.false), sign-within (drop (k + 1) bs), length-drop (k + 1) bs, c.sign_length.ensures)
 
 pub overflow_add-from : goal.overflow_add-from
-overflow_add-from c = omega (arith, within c)
+overflow_add-from c = omega (arith, from-within c)
 
-pub overflow_add-at : goal.overflow_add-at
-overflow_add-at c = omega (arith, within c)
+pub digits-run-requires-clause-from_in_bounds : goal.digits-run-requires-clause-from_in_bounds
+digits-run-requires-clause-from_in_bounds c = from-within c
 
-short : (c : After-sign_length) → c.sign_length.result ≤ 1
-short c = rw c.sign_length.ensures (sign-length-le _)
+-- what is held of the exponent, by its digits
+held : (c : After-digits-run) → exponent_held c.args.at (exponent_at (drop c.args.at c.args.content.now))
+    ≡ record { ok = ltb (c.args.at + 1 + c.sign_length.result) c.digits-run.result.end; end = c.digits-run.result.end; negative = starts 45 (drop (c.args.at + 1) c.args.content.now); value = c.digits-run.result.value }
+held c =
+    let a = c.args in
+    exponent-some a.content.now a.at (sym c.is_letter.ensures ∙ c.if-not-is_letter.false) (a.at + 1 + c.sign_length.result) (ap (λ k. a.at + 1 + k) c.sign_length.ensures) c.digits-run.result c.digits-run.ensures
 
-pub overflow_add-from-2 : goal.overflow_add-from-2
-overflow_add-from-2 c = omega (arith, within (goal.at.overflow_add-from-2 c).Else-not-is_letter, short c)
-
-pub overflow_add-at-2 : goal.overflow_add-at-2
-overflow_add-at-2 c = omega (arith, within (goal.at.overflow_add-at-2 c).Else-not-is_letter)
+pub returns-then-run-from : goal.returns-then-run-from
+returns-then-run-from c =
+    rw (held (goal.at.returns-then-run-from c).After-digits-run, le-ltb (c.args.at + 1 + c.sign_length.result) c.digits-run.result.end (omega arith))
 
 pub returns : goal.returns
 returns c =
-    let a = c.args in
-    rw c.byte_at.ensures
-    (sym (exponent-some a.content.now a.at (letter (goal.at.returns c).Else-not-is_letter) (a.at + 1 + c.sign_length.result) (ap (λ k. a.at + 1 + k) c.sign_length.ensures) c.digits-run.result c.digits-run.ensures))
+    let from = c.args.at + 1 + c.sign_length.result in
+    let end = c.digits-run.result.end in
+    let after : from ≤ end = (digits-within _ _ _ c.digits-run.result c.digits-run.ensures (from-within (goal.at.returns c).After-sign_length)).0 in
+    rw (held (goal.at.returns c).After-digits-run, c.byte_at.ensures, lt-ltb from end (omega (arith, c.if-run-from.false)))

@@ -1,6 +1,6 @@
 -- `with_digit` meets its contract.
-use mathlib.Core.Path.{◌≡◌, sym, ◌∙◌, ap}
-use Prim.Native.Nat.{◌+◌, ◌-◌, ◌*◌}
+use mathlib.Core.Path.{sym, ◌∙◌, ap}
+use Prim.Native.Nat.{◌+◌, ◌*◌}
 use native.Mathlib.Omega.{arith}
 use Rattle.star_number.proofs.Counting.{counted-small, counted-most}
 use Rattle.star_number.proofs.Places.{digit_low, digit-high}
@@ -13,7 +13,4 @@ pub overflow_sub-byte : goal.overflow_sub-byte
 overflow_sub-byte c = digit_low _ c.requires
 
 pub returns : goal.returns
-returns c =
-    let e : c.wide.result ≡ c.args.byte - 48 = c.wide.ensures in
-    ap (λ n. c.args.value * 10 + n) e
-    ∙ sym (counted-small _ (omega (arith, digit-high _ c.requires)))
+returns c = ap (λ n. c.args.value * 10 + n) c.from.ensures ∙ sym (counted-small _ (omega (arith, digit-high _ c.requires)))

@@ -2,7 +2,6 @@
 use mathlib.Core.Path.{◌≡◌, refl, ◌∙◌}
 use Prim.Native.Nat.{suc, ◌-◌}
 use native.Mathlib.Omega.{arith}
-use Rattle.star_parse.proofs.Ahead.{ahead-is}
 use Rattle.star_parse.proofs.Going.{over-level-name}
 use Rattle.star_parse.proofs.header.read_names.Goals as goal
 
@@ -11,22 +10,22 @@ loop-names-init c =
     let e : c.args.p.names - c.args.p.names ≡ 0 = omega arith in
     (c.requires, omega arith, omega arith, refl, λ rules w first outer sets packets values q d before outcome a. rw e a)
 
-pub sort_at-requires : goal.sort_at-requires
-sort_at-requires c = c.loop-names.invariant.0.bounds.rows
+pub next_is-requires : goal.next_is-requires
+next_is-requires c = c.loop-names.invariant.0.bounds.rows
 
 pub put_name-p-requires : goal.put_name-p-requires
 put_name-p-requires c = omega (arith, c.loop-names.invariant.0)
 
 pub loop-names-smaller : goal.loop-names-smaller
 loop-names-smaller c =
-    let e = ahead-is _ _ _ _ _ c.sort_at.ensures c.loop-names-test.true (omega arith) in
+    let e = c.next_is.ensures.is c.loop-names-test.true in
     omega (arith, e.token, c.put_name-p.ensures)
 
 pub loop-names-preserved : goal.loop-names-preserved
 loop-names-preserved c =
     let l = c.loop-names in
     let v = c.put_name-p in
-    let e = ahead-is _ _ _ _ _ c.sort_at.ensures c.loop-names-test.true (omega arith) in
+    let e = c.next_is.ensures.is c.loop-names-test.true in
     let more : v.result.names - c.args.p.names ≡ suc (l.p.names - c.args.p.names) = omega (arith, l.invariant.2, v.ensures.counted.names) in (
       omega (arith, l.invariant.0, v.ensures, e.token),
       omega (arith, l.invariant.1, v.ensures),
@@ -43,6 +42,6 @@ returns c =
       ready = l.invariant.0;
       further = l.invariant.1;
       counted = l.invariant.2;
-      last = λ h. c.loop-names-test.false (c.sort_at.ensures.is ∙ h);
+      last = c.next_is.ensures.not c.loop-names-test.false;
       goes = l.invariant.4;
     }

@@ -2,8 +2,8 @@
 use native.Mathlib.Omega.{arith}
 use Rattle.star_parse.proofs.packets.deeper.Goals as goal
 
-pub bounds-counts-level : goal.bounds-counts-level
-bounds-counts-level c = omega (arith, c.requires)
+pub bounds-s-level : goal.bounds-s-level
+bounds-s-level c = omega (arith, c.requires)
 
 pub overflow_add-result : goal.overflow_add-result
 overflow_add-result c =

@@ -1,27 +1,25 @@
 -- `read_stop` meets its contract: where no value comes, an open inner level takes `stop_` alone.
-use mathlib.Core.Path.{◌∙◌}
+use mathlib.Core.Path.{refl}
 use native.Mathlib.Omega.{arith}
-use Rattle.star_parse.proofs.Ahead.{ahead-is}
 use Rattle.star_parse.proofs.Refusing.{open-refuses}
 use Rattle.star_parse.proofs.Going.{comes, refused, over-stop}
 use Rattle.star_parse.proofs.packets.read_stop.Goals as goal
 
-pub returns-then-sort-eq-STOP : goal.returns-then-sort-eq-STOP
-returns-then-sort-eq-STOP c =
-    let e = ahead-is _ _ _ _ _ c.sort_at-sort.ensures c.if-sort-eq-STOP.true (omega arith) in
+pub returns-then-next_is : goal.returns-then-next_is
+returns-then-next_is c =
+    let e = c.next_is.ensures.is c.if-next_is.true in
     record {
       bounds = omega (arith, c.requires.ready, c.passed.ensures, e.token);
       further = omega (arith, c.passed.ensures);
       goes = λ rules w around l outer inner t base counts levels began before outcome a.
-          comes _ _ _ (c.passed.ensures.refusal ∙ c.requires.ready.going) (over-stop _ _ _ a e.is c.passed.ensures);
+          comes _ _ _ refl (over-stop _ _ _ a e.is c.passed.ensures);
     }
 
-pub returns-else-sort-eq-STOP : goal.returns-else-sort-eq-STOP
-returns-else-sort-eq-STOP c =
-    let e = c.sort_at-sort.ensures.is in
+pub returns-else-next_is : goal.returns-else-next_is
+returns-else-next_is c =
     record {
-      bounds = omega (arith, c.requires.ready, c.misplaced.ensures);
-      further = omega (arith, c.misplaced.ensures);
+      bounds = omega (arith, c.requires.ready, c.stop.ensures);
+      further = omega (arith, c.stop.ensures);
       goes = λ rules w around l outer inner t base counts levels began before outcome a.
-          refused _ _ _ 10 (omega arith) a (open-refuses _ w around outer l inner _ c.requires.fact (λ h. c.if-sort-eq-STOP.false (e ∙ h))) c.misplaced.ensures;
+          refused _ _ _ 10 (omega arith) a (open-refuses _ w around outer l inner _ c.requires.fact (c.next_is.ensures.not c.if-next_is.false)) c.stop.ensures;
     }

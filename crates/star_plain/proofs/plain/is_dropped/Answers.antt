@@ -15,5 +15,5 @@ returns-then-without c =
     λ file.
     rw c.if-without.true (c.is_headed.ensures file ∙ sym (stop-dropped (headed_at file args.tokens.now args.n) args.kind c.if-kind-ne-STOP.false))
 
-pub returns : goal.returns
-returns c = λ file. rw c.if-without.false
+pub returns-else-without : goal.returns-else-without
+returns-else-without c = λ file. rw c.if-without.false

@@ -7,19 +7,7 @@ use Rattle.star_plain.proofs.Keeping.{headed-stop, headed-other, headed-none}
 use Rattle.star_plain.proofs.plain.is_headed.Goals as goal
 
 pub loop-m-init : goal.loop-m-init
-loop-m-init c = (omega arith, λ file. refl)
-
-pub overflow_sub-m : goal.overflow_sub-m
-overflow_sub-m c = omega arith
-
-pub overflow_mul-kind : goal.overflow_mul-kind
-overflow_mul-kind c = omega (arith, c.requires)
-
-pub offset_bounds-tokens-m : goal.offset_bounds-tokens-m
-offset_bounds-tokens-m c = omega (arith, c.requires)
-
-pub bounds-tokens-m : goal.bounds-tokens-m
-bounds-tokens-m c = omega (arith, c.requires)
+loop-m-init c = λ file. refl
 
 -- the row before
 one_less : (m : ℕ) → 1 ≤ m → suc (m - 1) ≡ m
@@ -29,21 +17,16 @@ pub returns-then-kind-ne-STOP : goal.returns-then-kind-ne-STOP
 returns-then-kind-ne-STOP c =
     let m : ℕ = c.loop-m.m in
     let words = c.args.tokens.now in
-    λ file. sym (headed-other file words (m - 1) c.if-kind-ne-STOP.true) ∙ ap (λ k. headed_at file words k) (one_less m (omega arith)) ∙ c.loop-m.invariant.1 file
-
-pub loop-m-smaller : goal.loop-m-smaller
-loop-m-smaller c = omega arith
+    λ file. sym (headed-other file words (m - 1) c.if-kind-ne-STOP.true) ∙ ap (λ k. headed_at file words k) (one_less m (omega arith)) ∙ c.loop-m.invariant file
 
 pub loop-m-preserved : goal.loop-m-preserved
 loop-m-preserved c =
     let m : ℕ = c.loop-m.m in
-    let words = c.args.tokens.now in (
-      omega arith,
-      λ file. sym (headed-stop file words (m - 1) c.if-kind-ne-STOP.false) ∙ ap (λ k. headed_at file words k) (one_less m (omega arith)) ∙ c.loop-m.invariant.1 file,
-    )
+    let words = c.args.tokens.now in
+    λ file. sym (headed-stop file words (m - 1) c.if-kind-ne-STOP.false) ∙ ap (λ k. headed_at file words k) (one_less m (omega arith)) ∙ c.loop-m.invariant file
 
 pub returns : goal.returns
 returns c =
     let zero : c.loop-m.m ≡ 0 = omega (arith, c.loop-m-test.false) in
     let words = c.args.tokens.now in
-    λ file. sym (headed-none file words) ∙ ap (λ k. headed_at file words k) (sym zero) ∙ c.loop-m.invariant.1 file
+    λ file. sym (headed-none file words) ∙ ap (λ k. headed_at file words k) (sym zero) ∙ c.loop-m.invariant file

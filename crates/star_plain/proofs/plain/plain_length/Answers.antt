@@ -11,22 +11,7 @@ use Rattle.star_plain.proofs.plain.plain_length.Goals.{After-content, After-kept
 use Rattle.star_plain.proofs.plain.plain_length.Goals as goal
 
 pub loop-n-init : goal.loop-n-init
-loop-n-init c = (omega arith, none-long c.args.without _ _, omega arith)
-
-pub overflow_mul-kind : goal.overflow_mul-kind
-overflow_mul-kind c = omega arith
-
-pub offset_bounds-tokens-n : goal.offset_bounds-tokens-n
-offset_bounds-tokens-n c = omega arith
-
-pub bounds-tokens-n : goal.bounds-tokens-n
-bounds-tokens-n c = omega arith
-
-pub is_dropped-dropped-requires : goal.is_dropped-dropped-requires
-is_dropped-dropped-requires c = omega arith
-
-pub content-requires : goal.content-requires
-content-requires c = tt
+loop-n-init c = (none-long c.args.without _ _, omega arith)
 
 -- the turn's token
 turn : (c : After-content)
@@ -34,9 +19,6 @@ turn : (c : After-content)
     c.args.count c.loop-n.n c.is_dropped-dropped.result
     (get_or c.args.tokens.now (c.loop-n.n * 3) 0) c.content.result.now
 turn c = next _ _ _ _ c.loop-n.n (omega arith) _ (c.is_dropped-dropped.ensures _) _ c.content.ensures.result_value
-
-pub kept_length-total-requires : goal.kept_length-total-requires
-kept_length-total-requires c = tt
 
 -- its length
 short : (c : After-kept_length-total) → c.kept_length-total.result ≤ 1048586
@@ -49,19 +31,12 @@ short c =
 pub overflow_add-total : goal.overflow_add-total
 overflow_add-total c = omega (arith, short c, c.requires.count_le_most_bytes)
 
-pub overflow_add-n : goal.overflow_add-n
-overflow_add-n c = omega arith
-
-pub loop-n-smaller : goal.loop-n-smaller
-loop-n-smaller c = omega arith
-
 pub loop-n-preserved : goal.loop-n-preserved
 loop-n-preserved c = (
-  omega arith,
   omega (arith, (turn (goal.at.loop-n-preserved c).After-content).sum, c.kept_length-total.ensures),
   omega (arith, short c),
 )
 
 pub returns : goal.returns
 returns c =
-    c.loop-n.invariant.1 ∙ ap (λ n. length (plain_rows c.args.without c.args.file.now c.args.tokens.now n)) (omega arith)
+    c.loop-n.invariant.0 ∙ ap (λ n. length (plain_rows c.args.without c.args.file.now c.args.tokens.now n)) (omega arith)

@@ -10,22 +10,7 @@ use Rattle.star_plain.proofs.plain.put_tokens.Goals.{After-is_dropped-dropped}
 use Rattle.star_plain.proofs.plain.put_tokens.Goals as goal
 
 pub loop-n-init : goal.loop-n-init
-loop-n-init c = (omega arith, none_filled c.args.without _ _ _, refl)
-
-pub overflow_mul-kind : goal.overflow_mul-kind
-overflow_mul-kind c = omega arith
-
-pub offset_bounds-tokens-n : goal.offset_bounds-tokens-n
-offset_bounds-tokens-n c = omega arith
-
-pub bounds-tokens-n : goal.bounds-tokens-n
-bounds-tokens-n c = omega arith
-
-pub content-content-requires : goal.content-content-requires
-content-content-requires c = tt
-
-pub is_dropped-dropped-requires : goal.is_dropped-dropped-requires
-is_dropped-dropped-requires c = omega arith
+loop-n-init c = (none_filled c.args.without _ _ _, refl)
 
 -- the turn's token
 turn : (c : After-is_dropped-dropped)
@@ -35,7 +20,7 @@ turn : (c : After-is_dropped-dropped)
 turn c = next _ _ _ _ c.loop-n.n (omega arith) _ (c.is_dropped-dropped.ensures _) _ c.content-content.ensures.result_value
 
 pub slice_bounds-put_kept-count : goal.slice_bounds-put_kept-count
-slice_bounds-put_kept-count c = omega (arith, (turn c).within, (turn c).sum, c.loop-n.invariant.1.counts, c.requires.count_in_bounds_2)
+slice_bounds-put_kept-count c = omega (arith, (turn c).within, (turn c).sum, c.loop-n.invariant.0.counts, c.requires.count_in_bounds_2)
 
 pub slice_bounds-put_kept-start : goal.slice_bounds-put_kept-start
 slice_bounds-put_kept-start c = slice_bounds-put_kept-count c
@@ -45,27 +30,20 @@ slice_bounds-put_kept-end c = omega arith
 
 pub put_kept-at-requires : goal.put_kept-at-requires
 put_kept-at-requires c =
-    simp (length-take, length-drop) (omega (arith, (turn (goal.at.put_kept-at-requires c).After-is_dropped-dropped).within, (turn (goal.at.put_kept-at-requires c).After-is_dropped-dropped).sum, c.loop-n.invariant.1.counts, c.requires.count_in_bounds_2))
+    simp (length-take, length-drop) (omega (arith, (turn (goal.at.put_kept-at-requires c).After-is_dropped-dropped).within, (turn (goal.at.put_kept-at-requires c).After-is_dropped-dropped).sum, c.loop-n.invariant.0.counts, c.requires.count_in_bounds_2))
 
 pub overflow_add-at : goal.overflow_add-at
 overflow_add-at c =
-    omega (arith, (turn (goal.at.overflow_add-at c).After-is_dropped-dropped).within, (turn (goal.at.overflow_add-at c).After-is_dropped-dropped).sum, c.loop-n.invariant.1.counts, c.put_kept-at.ensures.counts, c.requires.count_in_bounds_2)
-
-pub overflow_add-n : goal.overflow_add-n
-overflow_add-n c = omega arith
-
-pub loop-n-smaller : goal.loop-n-smaller
-loop-n-smaller c = omega arith
+    omega (arith, (turn (goal.at.overflow_add-at c).After-is_dropped-dropped).within, (turn (goal.at.overflow_add-at c).After-is_dropped-dropped).sum, c.loop-n.invariant.0.counts, c.put_kept-at.ensures.counts, c.requires.count_in_bounds_2)
 
 pub loop-n-preserved : goal.loop-n-preserved
 loop-n-preserved c =
     let turned = c.loop-n in (
-      omega arith,
-      rw (turn (goal.at.loop-n-preserved c).After-is_dropped-dropped).plain (fill-rest turned.invariant.1 c.put_kept-at.ensures),
-      same_len_mid turned.at (length turned.out - turned.at) turned.out c.put_kept-at.new.out c.put_kept-at.auto.out ∙ turned.invariant.2,
+      rw (turn (goal.at.loop-n-preserved c).After-is_dropped-dropped).plain (fill-rest turned.invariant.0 c.put_kept-at.ensures),
+      same_len_mid turned.at (length turned.out - turned.at) turned.out c.put_kept-at.new.out c.put_kept-at.auto.out ∙ turned.invariant.1,
     )
 
 pub returns : goal.returns
 returns c =
     let whole : c.loop-n.n ≡ c.args.count = omega arith in
-    rw whole at c.loop-n.invariant.1.leaves
+    rw whole at c.loop-n.invariant.0.leaves

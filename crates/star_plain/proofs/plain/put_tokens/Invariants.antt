@@ -1,13 +1,8 @@
 use mathlib.Core.Path.{◌≡◌}
-use Prim.Native.Nat.{◌-◌, ◌≤◌}
 use lib.ListN.{length}
 use Rattle.star_plain.specs.Put.{Filled}
 use Rattle.star_plain.specs.Kept.{plain_rows}
 use Rattle.star_plain.proofs.plain.put_tokens.Given as goal
 
 abbrev pub invariant-loop-n : goal.invariant-loop-n
-invariant-loop-n l =
-    (l.n ≤ l.count) × Filled (plain_rows l.without l.file l.tokens l.n) l.initial.out l.out l.at × (length l.out ≡ length l.initial.out)
-
-abbrev pub decreases-loop-n : goal.decreases-loop-n
-decreases-loop-n l = l.count - l.n
+invariant-loop-n l = Filled (plain_rows l.without l.file l.tokens l.n) l.initial.out l.out l.at × (length l.out ≡ length l.initial.out)

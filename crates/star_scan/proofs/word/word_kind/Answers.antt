@@ -1,66 +1,76 @@
 -- `word_kind` meets its contract: the first byte tells which rules may hold.
-use mathlib.Core.Path.{◌≡◌, refl, sym, ◌∙◌, ap}
-use mathlib.Core.Logic.{⊎_elim, inl, inr}
-use mathlib.Core.List.{List, [], ◌∷◌}
-use Prim.Native.Nat.{ℕ, ◌<◌}
-use native.Mathlib.Nat.{le_of_eq}
+use mathlib.Core.Path.{◌≡◌, sym, ◌∙◌, ap}
+use mathlib.Core.List.{List}
+use Prim.Native.Nat.{ℕ, ◌-◌}
 use native.Mathlib.Omega.{arith}
-use lib.ListN.{length, drop, length-drop, drop_of_length-le}
+use lib.ListN.{length, take, drop, length-drop}
+use Rattle.std.proofs.lemmas.List.{take_all}
 use Rattle.star_lex.specs.Rules.{today}
 use Rattle.star_lex.specs.Tokens.{data_word, save_word, loop_word, stop_word, global_word}
-use Rattle.star_lex.specs.Split.{token, after, either, name_word, reference_word, word_lexeme}
 use Rattle.star_lex.specs.Answer.{word_answer}
-use Rattle.star_lex.proofs.Words.{no-keyword, after_first, after-byte, word-name, word-reference, word-ordinary, name-some, reference-some}
+use Rattle.star_lex.proofs.Words.{after-some, after_none, word-data, word-d, word-global, word-g, word-loop, word-l, word-save, word-stop, word-s, word-name, word-reference, word-other, word-empty}
 use Rattle.star_scan.proofs.word.word_kind.Goals as goal
 
-empty : (more : ℕ) (w : List ℕ) → length w ≡ 0 → word_lexeme today more w ≡ token more (record { kind = 7; content = w })
-unfolding word_lexeme either after data_word save_word loop_word stop_word global_word
-empty more [] e = refl
-empty more (b ∷ w) e = absurd (omega (arith, e))
-
-one_more : (n : ℕ) → (n ≡ 0 → ⊥) → (n ≡ 1 → ⊥) → 1 < n
-one_more n f g = omega arith
-
-pub returns-then-len-eq0 : goal.returns-then-len-eq0
-unfolding word_answer name_word reference_word
-returns-then-len-eq0 c = λ more. sym (ap word_answer (empty more c.args.word.now c.if-len-eq0.true))
-
-pub keyword-requires : goal.keyword-requires
-keyword-requires c = record { word_value = after_first 95 [] _ (λ e. ⊎_elim (λ f. omega arith) (⊎_elim (λ f. omega arith) (⊎_elim (λ f. omega arith) (λ f. omega arith))) c.in-100.is); word_value_2 = after_first 36 [] _ (λ e. ⊎_elim (λ f. omega arith) (⊎_elim (λ f. omega arith) (⊎_elim (λ f. omega arith) (λ f. omega arith))) c.in-100.is) }
-
-pub returns-then-len-eq1 : goal.returns-then-len-eq1
-unfolding word_answer name_word reference_word
-returns-then-len-eq1 c = λ more.
-    let w = c.args.word.now in
-    sym (ap word_answer (word-name today more w (no-keyword w (λ e. omega arith) (λ e. omega arith) (λ e. omega arith) (λ e. omega arith)) (after-byte 95 w (omega arith) c.in-95.is)
-    ∙ ap (name_word today more) (drop_of_length-le w (le_of_eq c.if-len-eq1.true))))
-
-pub returns-else-len-eq1 : goal.returns-else-len-eq1
-returns-else-len-eq1 c = λ more.
-    let w = c.args.word.now in
-    let some : 1 < length w = one_more (length w) c.if-len-eq0.false c.if-len-eq1.false in
-    c.limit.ensures more (95 ∷ drop 1 w) (rw length-drop (omega arith))
-    ∙ sym (ap word_answer (word-name today more w (no-keyword w (λ e. omega arith) (λ e. omega arith) (λ e. omega arith) (λ e. omega arith)) (after-byte 95 w (omega arith) c.in-95.is)
-    ∙ name-some today more (drop 1 w) (rw length-drop (omega arith))))
-
-pub returns-then-len-eq1-2 : goal.returns-then-len-eq1-2
-unfolding word_answer name_word reference_word
-returns-then-len-eq1-2 c = λ more.
-    let w = c.args.word.now in
-    sym (ap word_answer (word-reference today more w (no-keyword w (λ e. omega arith) (λ e. omega arith) (λ e. omega arith) (λ e. omega arith)) (after_first 95 [] w (λ e. omega arith)) (after-byte 36 w (omega arith) c.in-36.is)
-    ∙ ap (reference_word more) (drop_of_length-le w (le_of_eq c.if-len-eq1-2.true))))
-
-pub returns-else-len-eq1-2 : goal.returns-else-len-eq1-2
-unfolding word_answer name_word reference_word
-returns-else-len-eq1-2 c = λ more.
-    let w = c.args.word.now in
-    let some : 1 < length w = one_more (length w) c.if-len-eq0.false c.if-len-eq1-2.false in
-    sym (ap word_answer (word-reference today more w (no-keyword w (λ e. omega arith) (λ e. omega arith) (λ e. omega arith) (λ e. omega arith)) (after_first 95 [] w (λ e. omega arith)) (after-byte 36 w (omega arith) c.in-36.is)
-    ∙ reference-some more (drop 1 w) (rw length-drop (omega arith))))
+-- the part after the first byte
+rest-is : (w : List ℕ) → take (length w - 1) (drop 1 w) ≡ drop 1 w
+rest-is w = take_all (length w - 1) (drop 1 w) (omega (arith, length-drop 1 w))
 
 pub returns-in_default : goal.returns-in_default
-unfolding word_answer name_word reference_word
-returns-in_default c = λ more.
+unfolding word_answer
+returns-in_default c = λ more. sym (ap word_answer (word-empty today more c.args.word.now (omega arith)))
+
+pub returns-in-Some : goal.returns-in-Some
+unfolding data_word
+returns-in-Some c = λ more.
+    c.block.ensures more ∙ sym (ap word_answer (word-data today more c.args.word.now _ (after-some data_word _ _ c.in-Some.ensures.cases.0 c.in-Some.ensures.cases.1)))
+
+pub returns-in-None : goal.returns-in-None
+unfolding data_word word_answer
+returns-in-None c = λ more. sym (ap word_answer (word-d today more c.args.word.now c.in-100.is (after_none data_word _ c.in-None.ensures.cases)))
+
+pub returns-in-Some-strip_prefix : goal.returns-in-Some-strip_prefix
+unfolding global_word
+returns-in-Some-strip_prefix c = λ more.
+    c.alone.ensures more global_word ∙ sym (ap word_answer (word-global today more c.args.word.now c.in-103.is _ (after-some global_word _ _ c.in-Some-strip_prefix.ensures.cases.0 c.in-Some-strip_prefix.ensures.cases.1)))
+
+pub returns-in-None-strip_prefix : goal.returns-in-None-strip_prefix
+unfolding global_word word_answer
+returns-in-None-strip_prefix c = λ more. sym (ap word_answer (word-g today more c.args.word.now c.in-103.is (after_none global_word _ c.in-None-strip_prefix.ensures.cases)))
+
+pub returns-in-Some-strip_prefix-2 : goal.returns-in-Some-strip_prefix-2
+unfolding loop_word
+returns-in-Some-strip_prefix-2 c = λ more.
+    c.alone-in-Some-strip_prefix-2.ensures more loop_word ∙ sym (ap word_answer (word-loop today more c.args.word.now c.in-108.is _ (after-some loop_word _ _ c.in-Some-strip_prefix-2.ensures.cases.0 c.in-Some-strip_prefix-2.ensures.cases.1)))
+
+pub returns-in-None-strip_prefix-2 : goal.returns-in-None-strip_prefix-2
+unfolding loop_word word_answer
+returns-in-None-strip_prefix-2 c = λ more. sym (ap word_answer (word-l today more c.args.word.now c.in-108.is (after_none loop_word _ c.in-None-strip_prefix-2.ensures.cases)))
+
+pub returns-in-Some-strip_prefix-3 : goal.returns-in-Some-strip_prefix-3
+unfolding save_word
+returns-in-Some-strip_prefix-3 c = λ more.
+    c.frame.ensures more ∙ sym (ap word_answer (word-save today more c.args.word.now c.in-115.is _ (after-some save_word _ _ c.in-Some-strip_prefix-3.ensures.cases.0 c.in-Some-strip_prefix-3.ensures.cases.1)))
+
+pub returns-in-Some-strip_prefix-4 : goal.returns-in-Some-strip_prefix-4
+unfolding stop_word save_word
+returns-in-Some-strip_prefix-4 c = λ more.
+    c.alone-in-Some-strip_prefix-4.ensures more stop_word ∙ sym (ap word_answer (word-stop today more c.args.word.now c.in-115.is (after_none save_word _ c.in-None-strip_prefix-3.ensures.cases) _ (after-some stop_word _ _ c.in-Some-strip_prefix-4.ensures.cases.0 c.in-Some-strip_prefix-4.ensures.cases.1)))
+
+pub returns-in-None-strip_prefix-4 : goal.returns-in-None-strip_prefix-4
+unfolding stop_word save_word word_answer
+returns-in-None-strip_prefix-4 c = λ more. sym (ap word_answer (word-s today more c.args.word.now c.in-115.is (after_none save_word _ c.in-None-strip_prefix-3.ensures.cases) (after_none stop_word _ c.in-None-strip_prefix-4.ensures.cases)))
+
+pub returns-in-95 : goal.returns-in-95
+returns-in-95 c = λ more.
     let w = c.args.word.now in
-    sym (ap word_answer (word-ordinary today more w (no-keyword w (λ e. c.in_default.in_default-own.rest.0.0.1 (inl e)) (λ e. c.in_default.in_default-own.rest.0.0.1 (inr (inr (inr e)))) (λ e. c.in_default.in_default-own.rest.0.0.1 (inr (inr (inl e)))) (λ e. c.in_default.in_default-own.rest.0.0.1 (inr (inl e))))
-    (after_first 95 [] w c.in_default.in_default-own.rest.0.1) (after_first 36 [] w c.in_default.in_default-own.rest.1)))
+    rw (rest-is w) at (c.name.ensures more) ∙ sym (ap word_answer (word-name today more w c.in-len1-up.len_at_least (omega arith)))
+
+pub returns-in-36 : goal.returns-in-36
+returns-in-36 c = λ more.
+    let w = c.args.word.now in
+    rw (rest-is w) at (c.reference.ensures more) ∙ sym (ap word_answer (word-reference today more w c.in-len1-up.len_at_least (omega arith)))
+
+pub returns-in_default-first : goal.returns-in_default-first
+unfolding word_answer
+returns-in_default-first c = λ more.
+    sym (ap word_answer (word-other today more c.args.word.now (λ e. omega arith) (λ e. omega arith) (λ e. omega arith) (λ e. omega arith) (λ e. omega arith) (λ e. omega arith)))

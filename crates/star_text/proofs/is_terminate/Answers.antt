@@ -1,5 +1,0 @@
--- `is_terminate` meets its contract by the class of the byte.
-use Rattle.star_text.proofs.is_terminate.Goals as goal
-
-pub returns : goal.returns
-returns c = rw c.class_of.ensures
