@@ -81,3 +81,6 @@ listing-fits input = by_test (leb (length input) 8192) refl
     by_test : (b : Bool) → leb (length input) 8192 ≡ b → length (cond b (text_of (read_of input (of_words 16384))) (line too_long)) ≤ 8217
     by_test true q = text-fits input (leb-true _ _ q)
     by_test false q = omega arith
+
+pub size_fits : (input : List ℕ) {size : ℕ} → size ≡ length (listing_of input) → size ≤ 8217
+size_fits input e = omega (arith, listing-fits input)

@@ -6,12 +6,13 @@ use Prim.Native.Nat.{ℕ, ◌+◌, ◌*◌, ◌%◌, ◌≤◌, ◌<◌}
 use native.Mathlib.Numerals.{add-one}
 use native.Mathlib.Omega.{arith}
 use lib.Dec.{eqb}
-use lib.ListN.{length, get_or, take}
+use lib.ListN.{length, get_or, take, length-append, length-take, length-drop}
 use lib.Seq.{take-suc, take_all}
+use Rattle.star_text.specs.Bytes.{most_bytes}
 use Rattle.star_lex.specs.Tokens.{Token}
 use Rattle.star_lex.specs.Table.{content_in, or_empty}
 use Rattle.star_lex.specs.Holds.{Holds, file_tokens, token_at}
-use Rattle.star_lex.proofs.Held.{held-row, count-tokens, held-content}
+use Rattle.star_lex.proofs.Held.{Row, held-row, count-tokens, held-content}
 use Rattle.std.specs.Fmt as Fmt
 use Rattle.std.proofs.lemmas.Fmt.{decimal_by_steps}
 use Rattle.star_list.specs.Decimal.{decimal}
@@ -41,7 +42,7 @@ printed n h =
     n
     (omega (arith, h))
 
--- the lines as formats write them
+-- the lines as formats would write them
 pub refused-text : (n place : ℕ) → n < 4294967296 → place < 4294967296
     → refused_word ++ (32 ∷ (Fmt.decimal n ++ (32 ∷ (Fmt.decimal place ++ (10 ∷ []))))) ≡ refused_line n place
 unfolding refused_line line spaced
@@ -80,13 +81,28 @@ lines_next : (n : ℕ) (ts : List Token) (d : Token) → n < length ts
     → code_lines (take (n + 1) ts) ≡ code_lines (take n ts) ++ code_line (get_or ts n d).kind (get_or ts n d).content
 lines_next n ts d h = rw (add-one, take-suc ts n d h, lines-append, lines-one)
 
+pub line-length : (kind : ℕ) (content : List ℕ) → length (code_line kind content) ≤ length content + 1
+unfolding code_line line
+line-length kind content = by_test (eqb kind 1)
+  where
+    by_test : (b : Bool) → length (cond b (line content) []) ≤ length content + 1
+    by_test true = rw length-append (omega arith)
+    by_test false = omega arith
+
+-- one token more of a table, by its kind and content
+pub record Next (file : List ℕ) (n kind : ℕ) (content : List ℕ) : Type 0 where
+  pub lines : code_lines (take (n + 1) (file_tokens file)) ≡ code_lines (take n (file_tokens file)) ++ code_line kind content
+  pub small : length content ≤ most_bytes
+
 module _ (file words : List ℕ) (count : ℕ) (h : Holds file words count) where
   pub lines-all : (n : ℕ) → count ≤ n → code_lines (take n (file_tokens file)) ≡ code_lines (file_tokens file)
   lines-all n g = ap code_lines (take_all n (file_tokens file) (omega (arith, count-tokens file words count h)))
 
-  -- the lines of one token more of a table
-  pub next : (n : ℕ) → n < count → (content : List ℕ) → content ≡ or_empty (content_in file words n)
-      → code_lines (take (n + 1) (file_tokens file)) ≡ code_lines (take n (file_tokens file)) ++ code_line (get_or words (n * 3) 0) content
+  pub next : (n : ℕ) → n < count → (content : List ℕ) → content ≡ or_empty (content_in file words n) → Next file n (get_or words (n * 3) 0) content
   next n below content c =
       let e : content ≡ (token_at file n).content = c ∙ held-content file words count h n below in
-      rw ((held-row file words count h n below).kind, e) (lines_next n (file_tokens file) _ (omega (arith, count-tokens file words count h)))
+      let r : Row file words n = held-row file words count h n below in
+      record {
+        lines = rw (r.kind, e) (lines_next n (file_tokens file) _ (omega (arith, count-tokens file words count h)));
+        small = rw (e, ← r.content) (simp (length-take, length-drop) (omega (arith, h.small)));
+      }

@@ -1,5 +1,5 @@
 -- What reading's answer tells of the text: a refusal is its line, and else table 1 holds the tokens, and the counts are the answer's.
-use mathlib.Core.Path.{◌≡◌, sym, ◌∙◌, ap}
+use mathlib.Core.Path.{◌≡◌, sym, ◌∙◌, ap, subst}
 use mathlib.Core.List.{List, ◌++◌}
 use Prim.Native.Nat.{ℕ, ◌≤◌, ◌<◌}
 use borrow.Author.Tests.{le-leb, lt-leb}
@@ -14,6 +14,7 @@ use Rattle.star_read.specs.Known.{of_words}
 use Rattle.star_read.specs.declared.Answer.{Answer}
 use Rattle.star_read.proofs.Accepted.{answer-refused, answer-accepted, tokens-file}
 use Rattle.star_list.specs.Listing.{too_long, line, code_lines, refused_line, counts_line, text_of, listing_of}
+use Rattle.star_list.specs.Put.{PutWithin}
 
 -- the line of an answer's counts
 abbrev pub counts_of : Answer → List ℕ
@@ -51,7 +52,7 @@ listing-read input h = rw (le-leb (length input) 8192 h)
 zero-tables : (n : ℕ) → sizes (tables (replicate n 0) (replicate n 0) (replicate n 0) (replicate n 0) (replicate n 0)) ≡ of_words n
 zero-tables n = ap of_words (length-replicate n 0)
 
-pub zero-answer : (file : List ℕ) (n : ℕ) (r : Answer)
-    → r ≡ read_answer (read_of file (sizes (tables (replicate n 0) (replicate n 0) (replicate n 0) (replicate n 0) (replicate n 0))))
-    → r ≡ read_answer (read_of file (of_words n))
-zero-answer file n r e = e ∙ ap (λ w. read_answer (read_of file w)) (zero-tables n)
+pub put-words : (file : List ℕ) (n : ℕ) {before after : List ℕ} {end : ℕ}
+    → PutWithin (text_of (read_of file (sizes (tables (replicate n 0) (replicate n 0) (replicate n 0) (replicate n 0) (replicate n 0))))) 0 before after end
+    → PutWithin (text_of (read_of file (of_words n))) 0 before after end
+put-words file n {before} {after} {end} p = subst (λ w. PutWithin (text_of (read_of file w)) 0 before after end) (zero-tables n) p

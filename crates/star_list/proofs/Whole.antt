@@ -1,5 +1,5 @@
--- What is read of an input, at most 8,193 bytes, has the listing of the whole input.
-use Rattle.std.proofs.Common.{◌≡◌, ℕ, ◌<◌, ◌≤◌, List, [], ◌++◌, Bool, true, false, refl, sym, ap, ◌∙◌, subst, arith, length, length-append, append-nil, Option, Some, None, IfSome, Result, Ok, Err, OnOk}
+-- What is read of an input, at most 8,193 bytes, has the listing of the whole input, and the part of the room that is written is that listing.
+use Rattle.std.proofs.Common.{◌≡◌, ℕ, ◌<◌, ◌≤◌, List, [], ◌++◌, Bool, true, false, refl, sym, ap, ◌∙◌, subst, arith, length, take, drop, take_all, take_at, length-append, append-nil, Option, Some, None, IfSome, Result, Ok, Err, OnOk}
 use Rattle.std.specs.Prelude.{cond, leb}
 use Rattle.std.proofs.lemmas.Bool.{leb-true, leb-false, lt-leb}
 use Rattle.std.specs.Io.KnownBytes.{Appends, Consumes, IsAtEnd}
@@ -29,6 +29,13 @@ pub known_listing : (known left a b : Option (List ℕ)) (read : List ℕ) → C
 known_listing None left a b read p q h = tt
 known_listing (Some input) None a b read p q h = absurd p
 known_listing (Some input) (Some left) a b read p q h = subst (Appends a b) (sym (ap listing_of p ∙ same_listing read left q)) h
+
+-- what a call left in a room that takes it all, as far as it has it
+pub whole : (bytes before after : List ℕ) (size : ℕ) → size ≡ length bytes → length bytes ≤ length before
+    → after ≡ take (length before) bytes ++ drop (length bytes) before → take size after ≡ bytes
+whole bytes before after size e room h =
+    let rest = drop (length bytes) before in
+    ap (take size) h ∙ ap (λ l. take size (l ++ rest)) (take_all (length before) bytes room) ∙ take_at bytes rest size (sym e)
 
 pub on_ok : {T E : Type 0} {P Q : Type 0} (r : Result T E) → (P → Q) → OnOk r P → OnOk r Q
 on_ok (Ok x) f p = f p

@@ -1,4 +1,4 @@
--- What the program prints for an input: specification 13. Believed; the contract of `write_listing` cites it.
+-- What the program prints for an input: specification 13. Believed; the contract of `listing` cites it.
 use Rattle.std.specs.Prelude.{cond, ℕ, eqb, leb, length}
 use mathlib.Core.List.{List, [], ◌∷◌, ◌++◌, map, flat_map}
 use Rattle.star_text.specs.Outcome.{refused, accepted}

@@ -7,8 +7,17 @@ ghost use Rattle.std.specs.Prelude.{IfSome, OnOk};
 ghost use Rattle.std.specs.Io.KnownBytes.{Appends};
 ghost use Rattle.star_list.specs.Listing.{listing_of};
 
-use crate::listing::write_listing;
+use crate::listing::listing;
 use std::io::{self, Read, Write};
+
+// Writes what the program prints for an input, by one call; no text is longer than the room.
+fn write_listing<W: Write>(output: &mut W, input: &[u8]) -> io::Result<()>
+    ensures { OnOk result (Appends (W.contents output.old) (W.contents output.new) (listing_of input.now)) }
+{
+    let mut out: [u8; 8217] = [0; 8217];
+    let size = listing(input, &mut out);
+    output.write_all(&out[..size])
+}
 
 // Reads an input, as much of it as tells what is printed, and writes that.
 fn run<R: Read, W: Write>(input: &mut R, output: &mut W) -> io::Result<()>

@@ -7,9 +7,11 @@ pub(crate) fn put_bytes(out: &mut [u8], at: usize, bytes: &[u8]) -> usize
     requires { at + length bytes.now ≤ length out.old }
     ensures { Put bytes.now at out.old out.new result }
 {
-    let end = at + bytes.len();
-    out[at..end].copy_from_slice(bytes);
-    end
+    // a loop, since copy_from_slice would need memmove from outside the archive for C
+    for i in 0..bytes.len() {
+        out[at + i] = bytes[i];
+    }
+    at + bytes.len()
 }
 
 // Puts these bytes at a place, and answers the place after them; where the room ends before that, nothing is put.

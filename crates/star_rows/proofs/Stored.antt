@@ -9,8 +9,10 @@ use native.Mathlib.Omega.{arith}
 use borrow.Author.Tests.{lt-ltb, le-ltb, le-leb, lt-leb, ltb-true, ltb-false, leb-true, leb-false}
 use lib.Dec.{ltb, leb}
 use lib.ListN.{length, take, drop, replicate, length-append, length-take, length-drop}
-use lib.Seq.{sets, sets-eq, take_all, take-nil, take-append_seam, take-append-le, drop-append-add, drop-drop}
+use lib.Seq.{sets, sets-eq, paste, take_all, take-nil, take-append_seam, take-append-le, drop-append-add, drop-drop}
 use borrow.Rule.Slice.PartMut.{put_mid}
+use Rattle.std.proofs.lemmas.List.Edits.{paste_all}
+use Rattle.std.proofs.lemmas.Slice.{put_mid-paste}
 use Rattle.star_rows.specs.Rows.{put_row, stored, cleared_from, holding}
 
 -- a row that fits is written
@@ -24,18 +26,28 @@ pub put_full : (row : List ℕ) (n : ℕ) (words : List ℕ) → length words / 
 unfolding put_row
 put_full row n words h = rw (le-ltb n (length words / length row) h)
 
+-- each word of a row that fits lies within the table
+pub row-inside : (n words width i : ℕ) → n < words / width → i < width → n * width + i < words
+row-inside n words width i h k =
+    let some : 0 < width = omega arith in omega (arith, (le-div_iff_mul-le some).0 h, suc-mul n width)
+
+-- a row that is copied into the table, word by word
+pub put-copied : (row : List ℕ) (n width : ℕ) (words : List ℕ) → length row ≡ width → 0 < width → n < length words / width
+    → paste words (n * width) row width ≡ put_row row n words
+put-copied row n width words w some h =
+    let within : n * width + width ≤ length words = omega (arith, (le-div_iff_mul-le some).0 h, suc-mul n width) in
+    paste_all words (n * width) row width (sym w)
+    ∙ sym (append_assoc (take (n * width) words) row (drop (n * width + width) words))
+    ∙ ap (λ k. take (n * width) words ++ row ++ drop (n * width + k) words) (sym w)
+    ∙ sym (sets-eq row words (n * width) (omega arith))
+    ∙ ap (λ k. sets words (n * k) row) (sym w)
+    ∙ sym (put-fits row n words (rw w h))
+
 -- a row that is written as a part of the table
 pub put-part : (row : List ℕ) (n width : ℕ) (words part : List ℕ) → part ≡ row → length row ≡ width → 0 < width → n < length words / width
     → put_mid (n * width) (n * width + width - n * width) words part ≡ put_row row n words
 put-part row n width words part e w some h =
-    let within : n * width + width ≤ length words = omega (arith, (le-div_iff_mul-le some).0 h, suc-mul n width) in
-    let size : n * width + width - n * width ≡ width = omega arith in
-    rw (e, size, drop-drop width (n * width) words)
-    (sym (append_assoc (take (n * width) words) row (drop (n * width + width) words))
-    ∙ ap (λ k. take (n * width) words ++ row ++ drop (n * width + k) words) (sym w)
-    ∙ sym (sets-eq row words (n * width) (omega arith))
-    ∙ ap (λ k. sets words (n * k) row) (sym w)
-    ∙ sym (put-fits row n words (rw w h)))
+    put_mid-paste (n * width) (n * width + width - n * width) words part row width e (omega arith) (sym w) ∙ put-copied row n width words w some h
 
 pub flat_append {ℓ} : {A : Type ℓ} (row : A → List ℕ) (xs ys : List A) → flat_map row (xs ++ ys) ≡ flat_map row xs ++ flat_map row ys
 unfolding flat_map

@@ -1,10 +1,10 @@
 -- Laws of reading a word of a row: where it stands, that of a table that holds rows, and that no product of two 32-bit numbers wraps.
-use mathlib.Core.Path.{◌≡◌, ap}
+use mathlib.Core.Path.{◌≡◌, ◌∙◌, ap}
 use mathlib.Core.List.{List}
 use Prim.Native.Nat.{ℕ, zero, suc, ◌+◌, ◌-◌, ◌*◌, ◌≤◌, ◌<◌}
 use native.Mathlib.Nat.{mul-le-mul_right}
 use native.Mathlib.Omega.{arith}
-use lib.ListN.{length, get_or}
+use lib.ListN.{length, get_or, get_or-eq_default}
 use Rattle.star_rows.specs.Rows.{word_of, holding}
 use Rattle.star_rows.proofs.Held.{held_word}
 
@@ -17,6 +17,9 @@ module _ (table : List ℕ) (width : ℕ) where
   unfolding word_of
   word_row zero word h = absurd (omega arith)
   word_row (suc n) word h = ap (λ m. get_or table (m * width + word) 0) (let e : n ≡ suc n - 1 = omega arith in e)
+
+  pub word-behind : (row word : ℕ) → 1 ≤ row → length table ≤ (row - 1) * width + word → word_of table width row word ≡ 0
+  word-behind row word h k = word_row row word h ∙ get_or-eq_default table 0 k
 
 pub small_product : (a b : ℕ) → a ≤ 4294967295 → b ≤ 4294967295 → a * b ≤ 18446744065119617025
 small_product a b h k = omega (arith, mul-le-mul_right b h)

@@ -46,7 +46,9 @@ pub fn put_row<const N: usize>(table: &mut [u32], n: usize, row: [u32; N])
     let rows = table.len() / N;
     if n < rows {
         let at = n * N;
-        table[at..at + N].copy_from_slice(&row);
+        for i in 0..N {
+            table[at + i] = row[i];
+        }
     }
 }
 

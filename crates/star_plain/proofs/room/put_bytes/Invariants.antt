@@ -1,0 +1,7 @@
+use Rattle.std.proofs.Common.{◌≡◌}
+use Rattle.std.proofs.Math.Seq.{paste}
+use Rattle.star_plain.proofs.room.put_bytes.Given as goal
+
+-- the bytes passed are a copy in the room
+abbrev pub invariant-loop-i : goal.invariant-loop-i
+invariant-loop-i l = l.out ≡ paste l.initial.out l.at l.bytes l.i
