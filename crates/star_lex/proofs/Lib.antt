@@ -20,4 +20,5 @@ pub mod Steps
 pub mod Table
 pub mod WellFormed
 pub mod Words
+pub mod After
 pub mod SameRules

@@ -98,6 +98,15 @@ letter-inside content at e = by (starts 101 (drop at content)) refl (letter-next
     by true q f = inside 101 content at q
     by false q f = inside 69 content at (rw q at f)
 
+pub sign-length-le : (bs : List ℕ) → length (sign_bytes (sign_at bs)) ≤ 1
+unfolding sign_bytes
+sign-length-le bs = by (sign_at bs)
+  where
+    by : (s : Sign) → length (sign_bytes s) ≤ 1
+    by unsigned = omega arith
+    by plus = omega arith
+    by minus = omega arith
+
 -- a sign at the front of bytes is within them
 pub sign-within : (bs : List ℕ) → length (sign_bytes (sign_at bs)) ≤ length bs
 unfolding sign_bytes sign_at starts

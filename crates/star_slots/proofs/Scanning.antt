@@ -14,6 +14,16 @@ use Rattle.star_slots.specs.Inner.{refusal_of, held_of}
 use Rattle.star_find.specs.Lending.{found_of}
 use Rattle.star_find.specs.declared.Missing.{Missing}
 
+-- a slot that is not refused holds a row
+pub slot_held : (rows row : ℕ) → refusal_of rows row ≡ 0 → (row ≡ 0 → ⊥) × (row ≤ rows)
+unfolding refusal_of
+slot_held rows row e = by (eqb row 0) refl (ltb rows row) refl
+  where
+    by : (t : Bool) → eqb row 0 ≡ t → (u : Bool) → ltb rows row ≡ u → (row ≡ 0 → ⊥) × (row ≤ rows)
+    by true d u k = absurd (let z : ◌≡◌ {A = ℕ} 13 0 = rw d at e in omega arith)
+    by false d true k = absurd (let z : ◌≡◌ {A = ℕ} 14 0 = rw (d, k) at e in omega arith)
+    by false d false k = (eqb-false row 0 d, ltb-false rows row k)
+
 -- a slot that holds a row
 pub held-row : (rows word row : ℕ) → found_of (Ok row) ≡ held_of rows word → (row ≡ word) × (word ≡ 0 → ⊥) × (word ≤ rows)
 unfolding refusal_of found refused
@@ -29,11 +39,21 @@ module _ (slots : List ℕ) (rows : ℕ) (is_one : ℕ → Bool) (content : ℕ 
   abbrev rest : (left at : ℕ) → Found
   rest left at = probe slots rows is_one content wanted (left - 1) (next_slot (length slots) at)
 
-  pub probe-stop : (left at : ℕ) (m : Missing) → 0 < left → found_of (Err m) ≡ held_of rows (slot_at slots at)
+  pub probe-stop : (left at : ℕ) {m : ℕ} → 0 < left → m ≡ refusal_of rows (slot_at slots at) → (m ≡ 0 → ⊥) → probe slots rows is_one content wanted left at ≡ refused m
+  unfolding probe refusal_of
+  probe-stop zero at h e n = absurd (omega arith)
+  probe-stop (suc left) at {m} h e n = by (eqb (slot_at slots at) 0) refl (ltb rows (slot_at slots at)) refl
+    where
+      by : (t : Bool) → eqb (slot_at slots at) 0 ≡ t → (u : Bool) → ltb rows (slot_at slots at) ≡ u → probe slots rows is_one content wanted (suc left) at ≡ refused m
+      by true d u k = let q : m ≡ 13 = rw d at e in rw (d, q)
+      by false d true k = let q : m ≡ 14 = rw (d, k) at e in rw (d, k, q)
+      by false d false k = absurd (n (rw (d, k) at e))
+
+  pub probe-missing : (left at : ℕ) (m : Missing) → 0 < left → found_of (Err m) ≡ held_of rows (slot_at slots at)
       → probe slots rows is_one content wanted left at ≡ found_of (Err m)
   unfolding probe refusal_of found refused
-  probe-stop zero at m h e = absurd (omega arith)
-  probe-stop (suc left) at m h e = by (eqb (slot_at slots at) 0) refl (ltb rows (slot_at slots at)) refl
+  probe-missing zero at m h e = absurd (omega arith)
+  probe-missing (suc left) at m h e = by (eqb (slot_at slots at) 0) refl (ltb rows (slot_at slots at)) refl
     where
       by : (t : Bool) → eqb (slot_at slots at) 0 ≡ t → (u : Bool) → ltb rows (slot_at slots at) ≡ u
           → probe slots rows is_one content wanted (suc left) at ≡ found_of (Err m)

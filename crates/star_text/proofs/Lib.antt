@@ -4,6 +4,7 @@ pub mod Bytes
 pub mod Classes
 pub mod Names
 pub mod Comparing
+pub mod Twos
 pub mod Outcome
 pub mod Run
 pub mod Within

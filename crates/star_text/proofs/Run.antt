@@ -70,6 +70,14 @@ unfolding leading
 run_agree p q f [] h = refl
 run_agree p q f (x ∷ xs) h = rw (f x (h 0), run_agree p q f xs (λ i. h (suc i)))
 
+-- what holds of each of four places
+pub each-of-four : (P : ℕ → Type 0) → P 0 → P 1 → P 2 → P 3 → (k : ℕ) → k < 4 → P k
+each-of-four P a b c d zero h = a
+each-of-four P a b c d (suc zero) h = b
+each-of-four P a b c d (suc (suc zero)) h = c
+each-of-four P a b c d (suc (suc (suc zero))) h = d
+each-of-four P a b c d (suc (suc (suc (suc k)))) h = absurd (omega arith)
+
 -- past four bytes that pass
 module _ (p : ℕ → Bool) (xs : List ℕ) where
   goes_to : (m n : ℕ) → n ≡ m + 1 → m < length xs → p (get_or xs m 0) ≡ true → m + length (leading p (drop m xs)) ≡ n + length (leading p (drop n xs))

@@ -1,11 +1,25 @@
 -- Bytes that lie within bounds are allowed, and a file all of whose bytes are allowed has none that is refused.
-use Rattle.std.proofs.Common.{◌≡◌, ℕ, suc, ◌+◌, ◌<◌, ◌≤◌, Bool, true, false, leb, List, [], ◌∷◌, length, get_or, refl, ap, arith, le-leb, leb-false}
+use Rattle.std.proofs.Common.{◌≡◌, ℕ, suc, ◌+◌, ◌<◌, ◌≤◌, Bool, true, false, ltb, leb, List, [], ◌∷◌, length, get_or, refl, ap, arith, ltb-false, ltb-true, le-leb, leb-false}
 use Rattle.star_text.specs.Bytes.{is_allowed, leading, first_refused}
 
 -- of the first bytes none is below one bound or above another, and none above 13 is near 13
 abbrev pub Within : List ℕ → (low high over at : ℕ) → Type 0
 Within file low high over at =
     (k : ℕ) → k < at → (low ≤ get_or file k 0) × (get_or file k 0 ≤ high) × (14 ≤ get_or file k 0 → over + 14 ≤ get_or file k 0)
+
+pub within_more : (file : List ℕ) (low high over at low' high' over' a : ℕ) → Within file low high over at
+    → (low' ≤ low) × (low' ≤ get_or file at 0) → (high ≤ high') × (get_or file at 0 ≤ high')
+    → (over' ≤ over) × (over' ≤ a) → (14 ≤ get_or file at 0 → a + 14 ≡ get_or file at 0)
+    → Within file low' high' over' (at + 1)
+within_more file low high over at low' high' over' a w l h o f k less = go (ltb k at) refl
+  where
+    go : (t : Bool) → ltb k at ≡ t → (low' ≤ get_or file k 0) × (get_or file k 0 ≤ high') × (14 ≤ get_or file k 0 → over' + 14 ≤ get_or file k 0)
+    go true e =
+        let v = w k (ltb-true k at e) in
+        (omega (arith, v.0, l.0), omega (arith, v.1, h.0), λ q. omega (arith, v.2 q, o.0))
+    go false e =
+        let s : k ≡ at = omega (arith, ltb-false k at e, less) in
+        rw s (l.1, h.1, λ q. omega (arith, f q, o.1))
 
 allowed-by : (b : ℕ) → 9 ≤ b → b ≤ 126 → (14 ≤ b → 32 ≤ b) → is_allowed b ≡ true
 unfolding is_allowed

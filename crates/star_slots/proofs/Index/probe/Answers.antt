@@ -7,7 +7,7 @@ use Rattle.star_find.proofs.Looking.{decided, compared-outside, compared-equal, 
 use Rattle.star_slots.specs.Slots.{next_slot}
 use Rattle.star_slots.specs.Inner.{probed}
 use Rattle.star_slots.proofs.Slots.{next-inside}
-use Rattle.star_slots.proofs.Scanning.{held-row, probe-stop, probe-row, probe-none}
+use Rattle.star_slots.proofs.Scanning.{held-row, probe-missing, probe-row, probe-none}
 use Rattle.star_slots.proofs.Index.probe.Goals.{After-compare_row}
 use Rattle.star_slots.proofs.Index.probe.Goals as goal
 
@@ -15,7 +15,7 @@ pub returns-in_err-row : goal.returns-in_err-row
 returns-in_err-row c =
     let p = err_from_is_err_and c.from_residual.result c.from_residual.ensures.1 in
     rw (p.1, p.2)
-    (sym (probe-stop _ _ _ _ _ (length c.args.self.now.slots.now - c.loop.counter) c.loop.at _ (omega arith) (sym (ap found_of c.in_err-row.was) ∙ c.held.ensures)) ∙ c.loop.invariant.1)
+    (sym (probe-missing _ _ _ _ _ (length c.args.self.now.slots.now - c.loop.counter) c.loop.at _ (omega arith) (sym (ap found_of c.in_err-row.was) ∙ c.held.ensures)) ∙ c.loop.invariant.1)
 
 -- the slot that was compared decides
 turn : (c : After-compare_row) {m : Match}
