@@ -58,7 +58,7 @@ pub fn build(file: &[u8], tables: &mut Tables, slots: &mut [u32]) -> Result<Coun
     slots.fill(0);
     let counts = star_read::read(file, tables)?;
     if slots.len() <= counts.names as usize {
-        return Err(star_read::refuse(tables, Reason::NoRoom, 8));
+        return Err(star_read::refuse_for(tables, Reason::NoRoom, 8));
     }
     let tokens = &mut *tables.tokens;
     let names = &mut *tables.names;

@@ -231,5 +231,5 @@ pub fn check(file: &[u8], tables: &mut Tables, slots: &[u32]) -> Result<Counts, 
     if is_indexed(file, tokens, counts.tokens, names, counts.names, slots) {
         return Ok(counts);
     }
-    Err(star_read::refuse(tables, Reason::NoIndex, 0))
+    Err(star_read::refuse_for(tables, Reason::NoIndex, 0))
 }

@@ -34,6 +34,21 @@ pub struct Answer {
     pub values: u32,
 }
 
+// A refusal through C: it counts no rows.
+fn refusing(refusal: u32, place: u32) -> Answer
+    ensures { result ≡ record { refusal = refusal; place = place; tokens = 0; sets = 0; names = 0; packets = 0; values = 0 } }
+{
+    Answer {
+        refusal,
+        place,
+        tokens: 0,
+        sets: 0,
+        names: 0,
+        packets: 0,
+        values: 0,
+    }
+}
+
 impl From<Result<Counts, Refusal>> for Answer {
     ghost from_gives = { λ r a. a ≡ answer_of r };
 
@@ -48,15 +63,7 @@ impl From<Result<Counts, Refusal>> for Answer {
                 packets: counts.packets,
                 values: counts.values,
             },
-            Err(refusal) => Answer {
-                refusal: refusal.reason.number(),
-                place: refusal.place,
-                tokens: 0,
-                sets: 0,
-                names: 0,
-                packets: 0,
-                values: 0,
-            },
+            Err(refusal) => refusing(refusal.reason.number(), refusal.place),
         }
     }
 }
@@ -191,8 +198,17 @@ pub fn clear_tables(tables: &mut Tables)
     tables.values.fill(0);
 }
 
-// A refusal: every word of every table is 0.
-pub fn refuse(tables: &mut Tables, reason: Reason, place: u32) -> Refusal
+// A refusal of any number, as C is given it: the counts and every word of every table are 0.
+pub fn refuse(tables: &mut Tables, refusal: u32, place: u32) -> Answer
+    ensures gives { Gives (refused refusal place) (held tables.old) (held tables.new) result }
+    ensures same { Same tables.old tables.new }
+{
+    clear_tables(tables);
+    refusing(refusal, place)
+}
+
+// A refusal for a reason: every word of every table is 0.
+pub fn refuse_for(tables: &mut Tables, reason: Reason, place: u32) -> Refusal
     ensures gives { Gives (refused (number reason) place) (held tables.old) (held tables.new)
         (answer_of (Err result)) }
     ensures same { Same tables.old tables.new }
@@ -304,6 +320,6 @@ pub fn read_layout(file: &[u8], layout: u32, tables: &mut Tables) -> Result<Coun
 {
     match Layout::try_from(layout) {
         Ok(layout) => read_as(file, layout, false, tables),
-        Err(_) => Err(refuse(tables, Reason::NoLayout, 0)),
+        Err(_) => Err(refuse_for(tables, Reason::NoLayout, 0)),
     }
 }

@@ -4,7 +4,7 @@
 ghost use Rattle.std.specs.Prelude.{◌≡◌};
 ghost use Rattle.star_find.specs.Lending.{seen};
 ghost use Rattle.star_value_number.specs.Forms.{value_number, value_form_of};
-ghost use Rattle.star_value_number.specs.Answers.{number_answer};
+ghost use Rattle.star_value_number.specs.Answers.{number_answer, number_or_refusal};
 
 use star_find::{Lent, Missing};
 use star_number::{Form, Number};
@@ -19,27 +19,37 @@ pub struct ValueForm {
     pub uncertainty: f64,
 }
 
+// A value's number, or a refusal of any number, as its form.
 #[tactic(auto, unfolding(crate::specs::Forms::value_form_of))]
+pub fn value_form(number: Result<Number, u32>) -> ValueForm
+    ensures { result ≡ value_form_of (number_or_refusal number) }
+{
+    match number {
+        Ok(number) => {
+            let f = Form::from(number);
+            ValueForm {
+                refusal: 0,
+                form: f.form,
+                value: f.value,
+                uncertainty: f.uncertainty,
+            }
+        }
+        Err(refusal) => ValueForm {
+            refusal,
+            form: 0,
+            value: 0.0,
+            uncertainty: 0.0,
+        },
+    }
+}
+
 impl From<Result<Number, Missing>> for ValueForm {
     ghost from_gives = { λ answer form. form ≡ value_form_of (number_answer answer) };
 
     fn from(answer: Result<Number, Missing>) -> ValueForm {
         match answer {
-            Ok(number) => {
-                let f = Form::from(number);
-                ValueForm {
-                    refusal: 0,
-                    form: f.form,
-                    value: f.value,
-                    uncertainty: f.uncertainty,
-                }
-            }
-            Err(missing) => ValueForm {
-                refusal: missing.number(),
-                form: 0,
-                value: 0.0,
-                uncertainty: 0.0,
-            },
+            Ok(number) => value_form(Ok(number)),
+            Err(missing) => value_form(Err(missing.number())),
         }
     }
 }

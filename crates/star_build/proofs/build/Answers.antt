@@ -36,7 +36,7 @@ returns-then-slots-counts-clause-builds c =
     let few : slots ≤ counts.names = omega (arith, c.if-slots-counts.true, c.fill.auto.self) in
     let o = build-few-reads c.args.file.now lent (answer_of (Ok counts)) read.answer _ read.leaves refl slots few in
     record {
-      gives = record { answer = c.refuse.ensures.gives.answer ∙ sym (ap read_answer o); leaves = leaves_at o (same-sizes _ _ c.in_ok-counts.ensures.same) c.refuse.ensures.gives.leaves };
+      gives = record { answer = c.refuse_for.ensures.gives.answer ∙ sym (ap read_answer o); leaves = leaves_at o (same-sizes _ _ c.in_ok-counts.ensures.same) c.refuse_for.ensures.gives.leaves };
       leaves = c.fill.ensures.after (λ y h. h) ∙ build-few-slots c.args.file.now lent (answer_of (Ok counts)) read.answer _ read.leaves refl slots few;
     }
 

@@ -39,6 +39,6 @@ returns-clause-checks c =
     let k = same-sizes _ _ c.in_ok-counts.ensures.same in
     let o = check-no c.args.file.now (sizes (held c.args.tables.now)) (answer_of (Ok c.in_ok-counts.counts)) read.answer _ read.leaves refl c.args.slots.now (sym c.is_indexed.ensures.value ∙ c.if-is_indexed.false) in
     record {
-      answer = c.refuse.ensures.gives.answer ∙ sym (ap read_answer o);
-      leaves = leaves_at o (ap (λ n. words (length given.tokens) (length given.sets) n (length given.packets) (length given.values)) c.is_indexed.auto.names ∙ k) c.refuse.ensures.gives.leaves;
+      answer = c.refuse_for.ensures.gives.answer ∙ sym (ap read_answer o);
+      leaves = leaves_at o (ap (λ n. words (length given.tokens) (length given.sets) n (length given.packets) (length given.values)) c.is_indexed.auto.names ∙ k) c.refuse_for.ensures.gives.leaves;
     }

@@ -27,4 +27,4 @@ returns-in-Ok-clause-reads c =
     gives_at (subst P c.in-Ok.ensures (in-stopless (layout_number layout) file words (known layout))) c.read_as.ensures.gives
 
 pub returns-in-Err-clause-reads : goal.returns-in-Err-clause-reads
-returns-in-Err-clause-reads c = gives_at (in-none c.args.layout c.args.file.now _ c.in-Err.ensures) c.refuse.ensures.gives
+returns-in-Err-clause-reads c = gives_at (in-none c.args.layout c.args.file.now _ c.in-Err.ensures) c.refuse_for.ensures.gives

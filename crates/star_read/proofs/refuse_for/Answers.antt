@@ -1,7 +1,7 @@
--- `refuse` meets its contract: the tables are cleared.
+-- `refuse_for` meets its contract: the tables are cleared.
 use mathlib.Core.Path.{refl}
 use Rattle.star_read.specs.Answer.{read_answer}
-use Rattle.star_read.proofs.refuse.Goals as goal
+use Rattle.star_read.proofs.refuse_for.Goals as goal
 
 pub returns-clause-gives : goal.returns-clause-gives
 unfolding read_answer

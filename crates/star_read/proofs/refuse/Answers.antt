@@ -1,0 +1,8 @@
+-- `refuse` meets its contract: the tables are cleared.
+use Rattle.star_read.specs.Answer.{read_answer}
+use Rattle.star_read.proofs.refuse.Goals as goal
+
+pub returns-clause-gives : goal.returns-clause-gives
+unfolding read_answer
+returns-clause-gives c =
+    record { answer = c.refusing.ensures; leaves = c.clear_tables.ensures.leaves _ _ }
