@@ -2,13 +2,35 @@
 use crate::plain;
 use star_find::{Lent, Missing};
 use star_number::Number;
+use star_rows::Tables;
 use star_show::float::Bits;
-use star_show::kept::Kept;
+use star_show::kept::{FILLED, Kept};
 use star_show::print::Outcome;
 use star_show::{print, words};
 use star_text::refusal::Refusal;
 use star_write::PlainForm;
 use std::io;
+
+// Makes a call with as many words of the five tables as are lent, none of them 0 before, and with the slots that are lent, and keeps what it leaves there.
+pub(crate) fn call<R, F: FnOnce(&mut Tables, &mut [u32]) -> R>(kept: &mut Kept, f: F) -> R
+    requires { F.IsAlwaysCallable f }
+{
+    let [a, b, c, d, e, s] = kept.lent_sizes();
+    let [mut tokens, mut sets, mut names, mut packets, mut values] = [[FILLED; 1024]; 5];
+    let mut slots = kept.slots();
+    let answer = f(
+        &mut Tables {
+            tokens: words::first_mut(&mut tokens, a),
+            sets: words::first_mut(&mut sets, b),
+            names: words::first_mut(&mut names, c),
+            packets: words::first_mut(&mut packets, d),
+            values: words::first_mut(&mut values, e),
+        },
+        words::first_mut(&mut slots, s),
+    );
+    kept.store([tokens, sets, names, packets, values, slots]);
+    answer
+}
 
 // Reads a file of a layout and prints what came out.
 pub fn read(rt: &impl Print, file: &[u8], layout: u32, kept: &mut Kept) -> io::Result<()> {
@@ -19,7 +41,7 @@ pub fn read(rt: &impl Print, file: &[u8], layout: u32, kept: &mut Kept) -> io::R
 
 // Asks whether the names and codes of a file fit and prints what came out.
 pub fn fits(rt: &impl Print, file: &[u8], kept: &mut Kept) -> io::Result<()> {
-    let checked = kept.call(|tables, _| star_check::fits_32(file, tables));
+    let checked = call(kept, |tables, _| star_check::fits_32(file, tables));
     kept.keep(checked.map(|fits| fits.counts));
     let yes = checked.map_or(0, |fits| u32::from(fits.yes));
     print!(rt; " | {} {yes}", Outcome(checked.err()))?;
@@ -53,7 +75,10 @@ pub fn turn(rt: &impl Print, given: &[u8], file: &[u8], kept: &mut Kept) -> io::
     let layout = words::number(given);
     let mut room = [b'?'; 8192];
     let out = words::first_mut(&mut room, words::number(words::rest(given)));
-    let written = kept.call(|tables, _| star_convert::convert(file, layout, tables, out));
+    let written = call(
+        kept,
+        |tables, _| star_convert::convert(file, layout, tables, out),
+    );
     print_written(rt, written, out, kept)
 }
 
@@ -61,7 +86,10 @@ pub fn turn(rt: &impl Print, given: &[u8], file: &[u8], kept: &mut Kept) -> io::
 pub fn drop(rt: &impl Print, file: &[u8], size: u32, kept: &mut Kept) -> io::Result<()> {
     let mut room = [b'?'; 8192];
     let out = words::first_mut(&mut room, size);
-    let written = kept.call(|tables, _| star_write::drop_header_stops(file, tables, out));
+    let written = call(
+        kept,
+        |tables, _| star_write::drop_header_stops(file, tables, out),
+    );
     print_written(rt, written, out, kept)
 }
 

@@ -8,7 +8,7 @@ use std::io;
 // Builds an index of a file in so many slots, none of them 0 before, and prints what came out.
 pub fn build(rt: &impl Print, file: &[u8], size: u32, kept: &mut Kept) -> io::Result<()> {
     kept.lend_slots([FILLED; 1024], size);
-    let built = kept.call(|tables, slots| star_build::build(file, tables, slots));
+    let built = calls::call(kept, |tables, slots| star_build::build(file, tables, slots));
     kept.keep(built);
     print!(rt; " | {} | ", Outcome(built.err()))?;
     kept.print_slots(rt)?;
@@ -20,7 +20,7 @@ pub fn check(rt: &impl Print, given: &[u8], file: &[u8], kept: &mut Kept) -> io:
     let mut slots = [FILLED; 1024];
     let size = words::numbers(given, &mut slots);
     kept.lend_slots(slots, size);
-    let checked = kept.call(|tables, slots| star_index::check(file, tables, slots));
+    let checked = calls::call(kept, |tables, slots| star_index::check(file, tables, slots));
     kept.keep(checked);
     print!(rt; " | {}", Outcome(checked.err()))?;
     kept.print(rt, checked.is_ok())

@@ -1,4 +1,5 @@
 // The plain form of a file: read back, and written again.
+use crate::calls;
 use star_show::kept::Kept;
 use star_show::print::Outcome;
 use star_show::{compare, print, words};
@@ -8,7 +9,10 @@ use std::io;
 
 // Writes the plain form of a file, with tables that have room.
 pub fn write(file: &[u8], out: &mut [u8]) -> Result<PlainForm, Refusal> {
-    Kept::new().call(|tables, _| star_write::write(file, tables, out))
+    calls::call(
+        &mut Kept::new(),
+        |tables, _| star_write::write(file, tables, out),
+    )
 }
 
 // The bytes of a plain form, or 0 where it is refused.

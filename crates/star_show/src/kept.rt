@@ -71,25 +71,19 @@ impl Kept {
         self.tables[1..5] == other.tables[1..5]
     }
 
-    // Makes a call with as many words of the five tables as are lent, none of them 0 before, and with the slots that are lent, and keeps what it leaves there.
-    pub fn call<R, F: FnOnce(&mut Tables, &mut [u32]) -> R>(&mut self, f: F) -> R
-        requires { F.IsAlwaysCallable f }
-    {
-        let [a, b, c, d, e, s] = self.lent;
-        let [mut tokens, mut sets, mut names, mut packets, mut values] = [[FILLED; 1024]; 5];
-        let mut slots = self.tables[5];
-        let answer = f(
-            &mut Tables {
-                tokens: words::first_mut(&mut tokens, a),
-                sets: words::first_mut(&mut sets, b),
-                names: words::first_mut(&mut names, c),
-                packets: words::first_mut(&mut packets, d),
-                values: words::first_mut(&mut values, e),
-            },
-            words::first_mut(&mut slots, s),
-        );
-        self.tables = [tokens, sets, names, packets, values, slots];
-        answer
+    // How many words of each table, and how many slots, are lent to calls.
+    pub fn lent_sizes(&self) -> [u32; 6] {
+        self.lent
+    }
+
+    // The slots, as a call finds them.
+    pub fn slots(&self) -> [u32; 1024] {
+        self.tables[5]
+    }
+
+    // Keeps what a call left in the five tables and the slots.
+    pub fn store(&mut self, tables: [[u32; 1024]; 6]) {
+        self.tables = tables;
     }
 
     // Keeps the counts that a call answered: no rows where it refused.
@@ -103,9 +97,22 @@ impl Kept {
         });
     }
 
-    // Reads a file of a layout into the tables.
+    // Reads a file of a layout into the tables, as many words of each as are lent and none of them 0 before.
     pub fn read(&mut self, file: &[u8], layout: u32) -> Result<Counts, Refusal> {
-        let counts = self.call(|tables, _| star_read::read_layout(file, layout, tables));
+        let [a, b, c, d, e, _] = self.lent;
+        let [mut tokens, mut sets, mut names, mut packets, mut values] = [[FILLED; 1024]; 5];
+        let counts = star_read::read_layout(
+            file,
+            layout,
+            &mut Tables {
+                tokens: words::first_mut(&mut tokens, a),
+                sets: words::first_mut(&mut sets, b),
+                names: words::first_mut(&mut names, c),
+                packets: words::first_mut(&mut packets, d),
+                values: words::first_mut(&mut values, e),
+            },
+        );
+        self.tables = [tokens, sets, names, packets, values, self.tables[5]];
         self.keep(counts);
         counts
     }
